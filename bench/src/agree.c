@@ -1,0 +1,116 @@
+/*
+ * agree PLANS NAME=LIB.so ..: runs random plans and events through gate_check, gate_judge and gate_count of all
+ * libraries and demands equal answers. Plans are of good form and damaged, and of all kinds; many events lie on a
+ * bound, an edge or a rim.
+ */
+#include "libraries.h"
+#include "plans.h"
+
+#include <inttypes.h>
+#include <stdio.h>
+#include <stdlib.h>
+#include <string.h>
+
+enum { MAX_LIBRARIES = 8, MAX_EVENTS = 40, MAX_N = 8 };
+
+/* Stands in the word after `out`, which nobody may write. */
+#define GUARD 0xA5A5A5A5A5A5A5A5u
+
+struct answer {
+    uint64_t out[GATE_COUNT_OUT + 1];
+};
+
+static struct library libraries[MAX_LIBRARIES];
+static int library_count;
+
+static void print_words(const char *what, const int32_t *words, size_t len) {
+    fprintf(stderr, "%s:", what);
+    for (size_t i = 0; i < len; i++) fprintf(stderr, " %" PRId32, words[i]);
+    fprintf(stderr, "\n");
+}
+
+enum function { CHECK, JUDGE, COUNT };
+
+static const char *const function_names[] = {"gate_check", "gate_judge", "gate_count"};
+static const size_t out_lengths[] = {GATE_CHECK_OUT, GATE_JUDGE_OUT, GATE_COUNT_OUT};
+
+static struct answer ask(const struct library *library, enum function function, const struct plan *plan,
+                         const int32_t *events, size_t events_len) {
+    struct answer answer;
+    memset(&answer, 0, sizeof answer);
+    for (size_t i = 0; i <= out_lengths[function]; i++) answer.out[i] = GUARD;
+    switch (function) {
+    case CHECK: library->check(plan->words, plan->len, answer.out); break;
+    case JUDGE: library->judge(plan->words, plan->len, events, events_len, answer.out); break;
+    case COUNT: library->count(plan->words, plan->len, events, events_len, answer.out); break;
+    }
+    return answer;
+}
+
+/* The answer of all libraries; ends the program where two differ or one writes beyond `out`. */
+static struct answer ask_all(enum function function, const struct plan *plan,
+                             const int32_t *events, size_t events_len) {
+    size_t len = out_lengths[function];
+    struct answer first = ask(&libraries[0], function, plan, events, events_len);
+    for (int i = 0; i < library_count; i++) {
+        struct answer answer = ask(&libraries[i], function, plan, events, events_len);
+        if (memcmp(&answer, &first, sizeof answer) == 0 && answer.out[len] == GUARD) continue;
+        fprintf(stderr, "%s: %s and %s differ, or write beyond out\n", function_names[function], libraries[0].name,
+                libraries[i].name);
+        for (size_t j = 0; j <= len; j++) {
+            if (answer.out[j] != first.out[j] || j < 2) {
+                fprintf(stderr, "out[%zu]: %" PRIu64 ", %" PRIu64 "\n", j, first.out[j], answer.out[j]);
+            }
+        }
+        print_words("plan", plan->words, plan->len);
+        print_words("events", events, events_len);
+        exit(1);
+    }
+    return first;
+}
+
+int main(int argc, char **argv) {
+    if (argc < 4 || argc - 2 > MAX_LIBRARIES) {
+        fprintf(stderr, "usage: agree PLANS NAME=LIB.so NAME=LIB.so ..\n");
+        return 1;
+    }
+    long plans = strtol(argv[1], NULL, 10);
+    for (int i = 2; i < argc; i++) libraries[library_count++] = load_library(argv[i]);
+
+    struct random random = seeded(2015);
+    uint64_t checked[GATE_SPOILT + 1] = {0}, judged[GATE_SPOILT + 1] = {0}, counted[GATE_SPOILT + 1] = {0};
+    uint64_t taken = 0, aimed = 0;
+    for (long turn = 0; turn < plans; turn++) {
+        static struct plan good, plan;
+        int32_t events[MAX_EVENTS * MAX_N + 1] = {0};
+        random_plan(&random, &good);
+        plan = good;
+        if (turn % 3 != 0) damage(&random, &plan);
+
+        size_t n = (size_t)good.words[0], count = below(&random, MAX_EVENTS + 1), events_len = count * n;
+        for (size_t i = 0; i < count; i++) aimed += random_event(&random, &good, events + i * n);
+        if (below(&random, 16) == 0) events_len++;
+
+        checked[ask_all(CHECK, &plan, events, 0).out[GATE_OUT_REFUSAL]]++;
+        struct answer answer = ask_all(COUNT, &plan, events, events_len);
+        counted[answer.out[GATE_OUT_REFUSAL]]++;
+        taken += answer.out[GATE_OUT_TAKEN];
+        for (size_t i = 0; i < count && i < 8; i++) {
+            size_t event_len = below(&random, 16) == 0 ? below(&random, n + 2) : n;
+            judged[ask_all(JUDGE, &plan, events + i * n, event_len).out[GATE_OUT_REFUSAL]]++;
+        }
+    }
+
+    printf("Agreement of %d libraries:", library_count);
+    for (int i = 0; i < library_count; i++) printf(" %s", libraries[i].name);
+    printf("\n%-12s %8s %8s %8s %8s %8s\n", "", "pass", "21", "22", "23", "24");
+    const uint64_t *rows[] = {checked, judged, counted};
+    for (int i = CHECK; i <= COUNT; i++) {
+        printf("%-12s %8" PRIu64, function_names[i], rows[i][GATE_PASSES]);
+        for (int number = GATE_LONG_PLAN; number <= GATE_SPOILT; number++) printf(" %8" PRIu64, rows[i][number]);
+        printf("\n");
+    }
+    printf("%ld plans, all answers equal; %" PRIu64 " events taken in counts, %" PRIu64
+           " events put on a bound, an edge or a rim\n", plans, taken, aimed);
+    return 0;
+}

@@ -1,0 +1,313 @@
+//! The functions of gatecount.h written plainly in safe Rust: what the proved counter is compared with.
+
+/// Checking, judging and counting over slices.
+mod counter {
+    #![forbid(unsafe_code)]
+
+    const MIN_VALUE: i32 = -65_536;
+    const MAX_VALUE: i32 = 65_535;
+    const MAX_ENTRY: i32 = 16_777_216;
+    const MAX_D2: i32 = 4_096;
+    const MAX_WORDS: usize = 4_096;
+    const REGIONS: usize = 64;
+    const NO_PARENT: i32 = -1;
+
+    /// Words of a step before its body.
+    const HEADER: usize = 4;
+
+    /// Places of c11 and c22 in the body of an ellipse.
+    const C11: usize = 4;
+    const C22: usize = 6;
+
+    /// Number and place.
+    #[derive(Clone, Copy)]
+    pub struct Refusal(pub u64, pub usize);
+
+    pub struct Tally {
+        pub taken: u64,
+        pub spoilt: u64,
+        pub counts: [u64; REGIONS],
+    }
+
+    enum Shape<'a> {
+        Box(&'a [i32]),
+        Polygon(&'a [i32]),
+        Ellipse(&'a [i32]),
+        And(&'a [i32]),
+        Or(&'a [i32]),
+        Not(i32),
+    }
+
+    struct Step<'a> {
+        region: i32,
+        parent: i32,
+        shape: Shape<'a>,
+        next: usize,
+    }
+
+    fn step_at(plan: &[i32], at: usize) -> Step<'_> {
+        let next = at + HEADER + plan[at + 3] as usize;
+        let body = &plan[at + HEADER..next];
+        let shape = match plan[at] {
+            1 => Shape::Box(body),
+            2 => Shape::Polygon(body),
+            3 => Shape::Ellipse(body),
+            4 => Shape::And(body),
+            5 => Shape::Or(body),
+            _ => Shape::Not(body[0]),
+        };
+        Step { region: plan[at + 1], parent: plan[at + 2], shape, next }
+    }
+
+    fn has(bits: u64, region: i32) -> bool {
+        (bits >> region) & 1 == 1
+    }
+
+    // ---- Members ----
+
+    fn in_box(body: &[i32], event: &[i32]) -> bool {
+        body.chunks_exact(3).all(|triple| {
+            let value = event[triple[0] as usize];
+            triple[1] <= value && value < triple[2]
+        })
+    }
+
+    fn between(a: i64, b: i64, x: i64) -> bool {
+        (a <= x && x <= b) || (b <= x && x <= a)
+    }
+
+    fn in_polygon(body: &[i32], event: &[i32]) -> bool {
+        let (x, y) = (event[body[0] as usize] as i64, event[body[1] as usize] as i64);
+        let vertices = &body[2..];
+        let (mut x0, mut y0) = (vertices[vertices.len() - 2] as i64, vertices[vertices.len() - 1] as i64);
+        let mut sum = 0i64;
+        for vertex in vertices.chunks_exact(2) {
+            let (x1, y1) = (vertex[0] as i64, vertex[1] as i64);
+            let s = (x1 - x0) * (y - y0) - (x - x0) * (y1 - y0);
+            if s == 0 && between(x0, x1, x) && between(y0, y1, y) {
+                return true;
+            }
+            if y0 <= y && y < y1 && s > 0 {
+                sum += 1;
+            } else if y1 <= y && y < y0 && s < 0 {
+                sum -= 1;
+            }
+            (x0, y0) = (x1, y1);
+        }
+        sum != 0
+    }
+
+    fn in_ellipse(body: &[i32], event: &[i32]) -> bool {
+        let dx = event[body[0] as usize] as i64 - body[2] as i64;
+        let dy = event[body[1] as usize] as i64 - body[3] as i64;
+        let (c11, c12, c22, d2) = (body[4] as i64, body[5] as i64, body[6] as i64, body[7] as i64);
+        c22 * dx * dx - 2 * c12 * dx * dy + c11 * dy * dy <= d2 * (c11 * c22 - c12 * c12)
+    }
+
+    fn operand(bits: u64, word: i32) -> bool {
+        has(bits, word / 2) != (word % 2 == 1)
+    }
+
+    fn in_shape(shape: Shape, event: &[i32], bits: u64) -> bool {
+        match shape {
+            Shape::Box(body) => in_box(body, event),
+            Shape::Polygon(body) => in_polygon(body, event),
+            Shape::Ellipse(body) => in_ellipse(body, event),
+            Shape::And(body) => body.iter().all(|&word| operand(bits, word)),
+            Shape::Or(body) => body.iter().any(|&word| operand(bits, word)),
+            Shape::Not(word) => !operand(bits, word),
+        }
+    }
+
+    /// The bits of an event that is taken.
+    fn bits_of(plan: &[i32], event: &[i32]) -> u64 {
+        let (mut bits, mut at) = (0, 2);
+        for _ in 0..plan[1] {
+            let step = step_at(plan, at);
+            let in_parent = step.parent == NO_PARENT || has(bits, step.parent);
+            if in_parent && in_shape(step.shape, event, bits) {
+                bits |= 1 << step.region;
+            }
+            at = step.next;
+        }
+        bits
+    }
+
+    fn first_spoilt(event: &[i32]) -> Option<usize> {
+        event.iter().position(|value| !(MIN_VALUE..=MAX_VALUE).contains(value))
+    }
+
+    // ---- Form ----
+
+    fn length_good(kind: i32, length: i32) -> bool {
+        match kind {
+            1 => (3..=24).contains(&length) && length % 3 == 0,
+            2 => (8..=514).contains(&length) && length % 2 == 0,
+            3 => length == 8,
+            6 => length == 1,
+            _ => (2..=63).contains(&length),
+        }
+    }
+
+    /// A region that an earlier step has set.
+    fn earlier(set: u64, region: i32) -> bool {
+        (0..REGIONS as i32).contains(&region) && has(set, region)
+    }
+
+    /// A dimension below n that differs from those that stand before it, `stride` words apart.
+    fn dimension_good(before: &[i32], stride: usize, x: i32, n: i32) -> bool {
+        (0..n).contains(&x) && before.iter().step_by(stride).all(|&dimension| dimension != x)
+    }
+
+    /// The word x of a body, by itself and by the words before it.
+    fn body_word_good(kind: i32, before: &[i32], x: i32, n: i32, set: u64) -> bool {
+        let value_good = (MIN_VALUE..=MAX_VALUE).contains(&x);
+        let i = before.len();
+        match (kind, i) {
+            (1, _) => match i % 3 {
+                0 => dimension_good(before, 3, x, n),
+                1 => value_good,
+                _ => (MIN_VALUE + 1..=MAX_VALUE + 1).contains(&x) && before[i - 1] < x,
+            },
+            (2, 0..=1) | (3, 0..=1) => dimension_good(before, 1, x, n),
+            (2, _) | (3, 2..=3) => value_good,
+            (3, C11..=C22) => (-MAX_ENTRY..=MAX_ENTRY).contains(&x),
+            (3, _) => (1..=MAX_D2).contains(&x),
+            _ => x >= 0 && earlier(set, x / 2),
+        }
+    }
+
+    fn matrix_good(body: &[i32]) -> bool {
+        let (c11, c12, c22) = (body[C11] as i64, body[C11 + 1] as i64, body[C22] as i64);
+        c11 > 0 && c11 * c22 > c12 * c12
+    }
+
+    /// The place of the lowest bad word as the error.
+    fn form(plan: &[i32]) -> Result<(), usize> {
+        let word = |place: usize| plan.get(place).copied().ok_or(place);
+        let demand = |good: bool, place: usize| if good { Ok(()) } else { Err(place) };
+        let n = word(0)?;
+        demand((1..=8).contains(&n), 0)?;
+        let steps = word(1)?;
+        demand((0..=REGIONS as i32).contains(&steps), 1)?;
+        let (mut at, mut set) = (2, 0);
+        for _ in 0..steps {
+            let kind = word(at)?;
+            demand((1..=6).contains(&kind), at)?;
+            let region = word(at + 1)?;
+            demand((0..steps).contains(&region) && !has(set, region), at + 1)?;
+            let parent = word(at + 2)?;
+            demand(parent == NO_PARENT || earlier(set, parent), at + 2)?;
+            let length = word(at + 3)?;
+            demand(length_good(kind, length), at + 3)?;
+            let body = at + HEADER;
+            let next = body + length as usize;
+            for place in body..next {
+                let x = word(place)?;
+                demand(body_word_good(kind, &plan[body..place], x, n, set), place)?;
+                if kind == 3 && place == body + C22 {
+                    demand(matrix_good(&plan[body..=place]), body + C11)?;
+                }
+            }
+            set |= 1 << region;
+            at = next;
+        }
+        demand(at == plan.len(), at)
+    }
+
+    // ---- Answers ----
+
+    pub fn check(plan: &[i32]) -> Result<(), Refusal> {
+        if plan.len() > MAX_WORDS {
+            return Err(Refusal(21, 0));
+        }
+        form(plan).map_err(|place| Refusal(22, place))
+    }
+
+    pub fn judge(plan: &[i32], event: &[i32]) -> Result<u64, Refusal> {
+        check(plan)?;
+        if event.len() != plan[0] as usize {
+            return Err(Refusal(23, event.len()));
+        }
+        match first_spoilt(event) {
+            Some(place) => Err(Refusal(24, place)),
+            None => Ok(bits_of(plan, event)),
+        }
+    }
+
+    pub fn count(plan: &[i32], events: &[i32]) -> Result<Tally, Refusal> {
+        check(plan)?;
+        let (n, steps) = (plan[0] as usize, plan[1] as usize);
+        if events.len() % n != 0 {
+            return Err(Refusal(23, events.len()));
+        }
+        let mut tally = Tally { taken: 0, spoilt: 0, counts: [0; REGIONS] };
+        for event in events.chunks_exact(n) {
+            if first_spoilt(event).is_some() {
+                tally.spoilt += 1;
+            } else {
+                let bits = bits_of(plan, event);
+                tally.taken += 1;
+                for region in 0..steps {
+                    tally.counts[region] += (bits >> region) & 1;
+                }
+            }
+        }
+        Ok(tally)
+    }
+}
+
+use counter::Refusal;
+use std::slice::{from_raw_parts, from_raw_parts_mut};
+
+fn refuse(out: &mut [u64], refusal: Refusal) {
+    out[0] = refusal.0;
+    out[1] = refusal.1 as u64;
+}
+
+#[no_mangle]
+pub unsafe extern "C" fn gate_check(plan: *const i32, plan_len: usize, out: *mut u64) {
+    let (plan, out) = (from_raw_parts(plan, plan_len), from_raw_parts_mut(out, 2));
+    out.fill(0);
+    if let Err(refusal) = counter::check(plan) {
+        refuse(out, refusal);
+    }
+}
+
+#[no_mangle]
+pub unsafe extern "C" fn gate_judge(
+    plan: *const i32,
+    plan_len: usize,
+    event: *const i32,
+    event_len: usize,
+    out: *mut u64,
+) {
+    let (plan, event) = (from_raw_parts(plan, plan_len), from_raw_parts(event, event_len));
+    let out = from_raw_parts_mut(out, 3);
+    out.fill(0);
+    match counter::judge(plan, event) {
+        Ok(bits) => out[2] = bits,
+        Err(refusal) => refuse(out, refusal),
+    }
+}
+
+#[no_mangle]
+pub unsafe extern "C" fn gate_count(
+    plan: *const i32,
+    plan_len: usize,
+    events: *const i32,
+    events_len: usize,
+    out: *mut u64,
+) {
+    let (plan, events) = (from_raw_parts(plan, plan_len), from_raw_parts(events, events_len));
+    let out = from_raw_parts_mut(out, 68);
+    out.fill(0);
+    match counter::count(plan, events) {
+        Ok(tally) => {
+            out[2] = tally.taken;
+            out[3] = tally.spoilt;
+            out[4..].copy_from_slice(&tally.counts);
+        }
+        Err(refusal) => refuse(out, refusal),
+    }
+}

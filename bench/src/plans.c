@@ -1,0 +1,377 @@
+/* Plans and events for the comparisons: fixed loads for timing, random ones for agreement. */
+#include "plans.h"
+
+#include <math.h>
+
+enum { MIN_VALUE = -65536, MAX_VALUE = 65535, VALUES = 131072, FULL_REACH = 65536, MAX_ENTRY = 16777216 };
+enum { MAX_VERTICES = 256, MAX_OPERANDS = 63 };
+
+/* ---- Random numbers ---- */
+
+struct random seeded(uint64_t seed) {
+    struct random random = {seed * 0x9E3779B97F4A7C15u};
+    return random;
+}
+
+uint64_t below(struct random *random, uint64_t limit) {
+    uint64_t x = random->state; /* xorshift64* */
+    x ^= x >> 12;
+    x ^= x << 25;
+    x ^= x >> 27;
+    random->state = x;
+    return (x * 0x2545F4914F6CDD1Du >> 16) % limit;
+}
+
+static bool one_in(struct random *random, uint64_t limit) { return below(random, limit) == 0; }
+
+/* From low to high. */
+static int32_t from_to(struct random *random, int32_t low, int32_t high) {
+    return low + (int32_t)below(random, (uint64_t)((int64_t)high - low + 1));
+}
+
+static int32_t any_value(struct random *random) { return from_to(random, MIN_VALUE, MAX_VALUE); }
+
+/* ---- Writing a plan ---- */
+
+static void add_word(struct plan *plan, int32_t word) { plan->words[plan->len++] = word; }
+
+static void begin_plan(struct plan *plan, int n, int steps) {
+    plan->len = 0;
+    plan->steps = 0;
+    plan->reach = FULL_REACH;
+    add_word(plan, n);
+    add_word(plan, steps);
+}
+
+/* The header of a step; end_step puts its body length in. */
+static void begin_step(struct plan *plan, enum gate_kind kind, int32_t region, int32_t parent) {
+    plan->step_at[plan->steps++] = plan->len;
+    add_word(plan, kind);
+    add_word(plan, region);
+    add_word(plan, parent);
+    add_word(plan, 0);
+}
+
+static void end_step(struct plan *plan) {
+    size_t at = plan->step_at[plan->steps - 1];
+    plan->words[at + 3] = (int32_t)(plan->len - at - 4);
+}
+
+/* ---- Loads for timing ---- */
+
+/* The body of a box over `triples` dimensions that holds half of the even events. */
+static void half_box(struct random *random, struct plan *plan, int n, int first, int triples) {
+    int32_t width = (int32_t)(VALUES * pow(0.5, 1.0 / triples));
+    for (int i = 0; i < triples; i++) {
+        int32_t min = from_to(random, MIN_VALUE, MAX_VALUE + 1 - width);
+        add_word(plan, (first + i) % n);
+        add_word(plan, min);
+        add_word(plan, min + width);
+    }
+}
+
+void boxes_load(struct plan *plan, int n, int count, bool parents) {
+    struct random random = seeded(1);
+    begin_plan(plan, n, count);
+    for (int i = 0; i < count; i++) {
+        begin_step(plan, GATE_BOX, i, parents && i > 0 ? (i - 1) / 2 : GATE_NO_PARENT);
+        half_box(&random, plan, n, i, n);
+        end_step(plan);
+    }
+}
+
+void combinations_load(struct plan *plan, int n) {
+    struct random random = seeded(2);
+    begin_plan(plan, n, GATE_REGIONS);
+    for (int i = 0; i < GATE_REGIONS; i++) {
+        static const enum gate_kind turn[] = {GATE_BOX, GATE_AND, GATE_OR, GATE_NOT};
+        enum gate_kind kind = i < 4 ? GATE_BOX : turn[i % 4];
+        begin_step(plan, kind, i, i == 0 || one_in(&random, 2) ? GATE_NO_PARENT : from_to(&random, 0, i - 1));
+        if (kind == GATE_BOX) {
+            half_box(&random, plan, n, i, from_to(&random, 1, n));
+        } else {
+            int operands = kind == GATE_NOT ? 1 : from_to(&random, 2, 4);
+            for (int j = 0; j < operands; j++) add_word(plan, from_to(&random, 0, 2 * i - 1));
+        }
+        end_step(plan);
+    }
+}
+
+void polygon_load(struct plan *plan, int vertices) {
+    struct random random = seeded(5);
+    begin_plan(plan, 2, 1);
+    begin_step(plan, GATE_POLYGON, 0, GATE_NO_PARENT);
+    add_word(plan, 0);
+    add_word(plan, 1);
+    for (int i = 0; i < vertices; i++) {
+        double angle = 2 * acos(-1.0) * i / vertices, radius = from_to(&random, 30000, 60000);
+        add_word(plan, (int32_t)(radius * cos(angle)));
+        add_word(plan, (int32_t)(radius * sin(angle)));
+    }
+    end_step(plan);
+}
+
+void ellipses_load(struct plan *plan, int count) {
+    struct random random = seeded(4);
+    begin_plan(plan, 2, count);
+    for (int i = 0; i < count; i++) {
+        begin_step(plan, GATE_ELLIPSE, i, GATE_NO_PARENT);
+        add_word(plan, 0);
+        add_word(plan, 1);
+        add_word(plan, from_to(&random, -8000, 8000));
+        add_word(plan, from_to(&random, -8000, 8000));
+        add_word(plan, from_to(&random, 2500000, 3500000));
+        add_word(plan, from_to(&random, -1000000, 1000000));
+        add_word(plan, from_to(&random, 2500000, 3500000));
+        add_word(plan, 1024);
+        end_step(plan);
+    }
+}
+
+void even_events(int32_t *events, int n, size_t count) {
+    struct random random = seeded(3);
+    for (size_t i = 0; i < count * n; i++) events[i] = any_value(&random);
+    for (size_t i = 0; i < count; i += 100) events[i * n] = 70000;
+}
+
+/* ---- Random plans ---- */
+
+/* A number within the plan's reach; in a plan of full reach often at an end. */
+static int32_t near_value(struct random *random, const struct plan *plan) {
+    static const int32_t ends[] = {MIN_VALUE, MIN_VALUE + 1, MAX_VALUE - 1, MAX_VALUE};
+    if (plan->reach == FULL_REACH && one_in(random, 8)) return ends[below(random, 4)];
+    return from_to(random, -plan->reach, plan->reach - 1);
+}
+
+/* The numbers from 0 to count - 1, shuffled. */
+static void shuffled(struct random *random, int32_t *order, int count) {
+    for (int i = 0; i < count; i++) {
+        int j = (int)below(random, (uint64_t)i + 1);
+        order[i] = order[j];
+        order[j] = i;
+    }
+}
+
+static void random_box(struct random *random, struct plan *plan, int n) {
+    int32_t dimensions[8];
+    shuffled(random, dimensions, n);
+    int triples = from_to(random, 1, n);
+    for (int i = 0; i < triples; i++) {
+        int32_t a = near_value(random, plan), b = near_value(random, plan);
+        add_word(plan, dimensions[i]);
+        add_word(plan, one_in(random, 6) ? MIN_VALUE : a < b ? a : b);
+        add_word(plan, one_in(random, 6) ? MAX_VALUE + 1 : (a < b ? b : a) + 1);
+    }
+}
+
+/* Two dimensions that differ. */
+static void random_plane(struct random *random, struct plan *plan, int n) {
+    int32_t dimensions[8];
+    shuffled(random, dimensions, n);
+    add_word(plan, dimensions[0]);
+    add_word(plan, dimensions[1]);
+}
+
+/* Any vertices: outlines cross themselves, and edges are often level or upright. */
+static void random_polygon(struct random *random, struct plan *plan, int n) {
+    int vertices = one_in(random, 20) ? from_to(random, 253, MAX_VERTICES) : from_to(random, 3, 12);
+    random_plane(random, plan, n);
+    for (int i = 0; i < vertices; i++) {
+        bool upright = i > 0 && one_in(random, 4), level = i > 0 && one_in(random, 4);
+        int32_t x = upright ? plan->words[plan->len - 2] : near_value(random, plan);
+        int32_t y = level ? plan->words[plan->len - 1] : near_value(random, plan);
+        add_word(plan, x);
+        add_word(plan, y);
+    }
+}
+
+/*
+ * With c11 = a^2, c12 = a b, c22 = b^2 + f^2 and D = d the whole points (d a, d b) and (0, d f) from the mean lie on
+ * the rim. Entries of greatest size are tried too.
+ */
+static void random_ellipse(struct random *random, struct plan *plan, int n) {
+    bool small = plan->reach < FULL_REACH;
+    int32_t a = from_to(random, 1, small ? 8 : 4096), d = from_to(random, 1, small ? 8 : 16);
+    int32_t b = small ? from_to(random, -8, 8) : from_to(random, -2800, 2800);
+    int32_t f = from_to(random, 1, small ? 8 : 2800);
+    bool greatest = one_in(random, 8);
+    random_plane(random, plan, n);
+    add_word(plan, near_value(random, plan));
+    add_word(plan, near_value(random, plan));
+    add_word(plan, greatest ? MAX_ENTRY : a * a);
+    add_word(plan, greatest ? (MAX_ENTRY - 1) * from_to(random, -1, 1) : a * b);
+    add_word(plan, greatest ? MAX_ENTRY : b * b + f * f);
+    add_word(plan, greatest ? 4096 : d * d);
+}
+
+/* Operands among the regions of the steps before. */
+static void random_operands(struct random *random, struct plan *plan, int count) {
+    for (int i = 0; i < count; i++) {
+        size_t step = plan->step_at[below(random, plan->steps - 1)];
+        add_word(plan, 2 * plan->words[step + 1] + from_to(random, 0, 1));
+    }
+}
+
+static void random_step(struct random *random, struct plan *plan, int n, int32_t region, bool room) {
+    bool first = plan->steps == 0;
+    enum gate_kind kind = (enum gate_kind)from_to(random, GATE_BOX, GATE_NOT);
+    bool needs_two = kind == GATE_POLYGON || kind == GATE_ELLIPSE;
+    if (!room || (needs_two && n < 2) || (first && kind >= GATE_AND)) kind = GATE_BOX;
+    int32_t parent = GATE_NO_PARENT;
+    if (!first && one_in(random, 2)) parent = plan->words[plan->step_at[below(random, plan->steps)] + 1];
+    begin_step(plan, kind, region, parent);
+    switch (kind) {
+    case GATE_BOX: random_box(random, plan, n); break;
+    case GATE_POLYGON: random_polygon(random, plan, n); break;
+    case GATE_ELLIPSE: random_ellipse(random, plan, n); break;
+    case GATE_NOT: random_operands(random, plan, 1); break;
+    default:
+        random_operands(random, plan, one_in(random, 10) ? from_to(random, 60, MAX_OPERANDS) : from_to(random, 2, 5));
+    }
+    end_step(plan);
+}
+
+void random_plan(struct random *random, struct plan *plan) {
+    static const int32_t reaches[] = {4, 100, FULL_REACH};
+    enum { LONGEST_STEP = 518, LONGEST_BOX = 28 };
+    int n = from_to(random, 1, 8);
+    int steps = one_in(random, 16) ? GATE_REGIONS : from_to(random, 0, 12);
+    int32_t regions[GATE_REGIONS];
+    begin_plan(plan, n, steps);
+    plan->reach = reaches[below(random, 3)];
+    shuffled(random, regions, steps);
+    for (int i = 0; i < steps; i++) {
+        bool room = plan->len + LONGEST_STEP + (size_t)(steps - i) * LONGEST_BOX <= GATE_MAX_WORDS;
+        random_step(random, plan, n, regions[i], room);
+    }
+}
+
+/* ---- Damage ---- */
+
+/* Numbers at which some rule of form changes its answer. */
+static int32_t edge_word(struct random *random) {
+    static const int32_t edges[] = {
+        INT32_MIN, -16777217, -16777216, -65537, -65536, -65535, -2, -1, 0, 1, 2, 3, 4, 5, 6, 7, 8, 9, 24, 27, 63, 64,
+        65, 127, 128, 129, 514, 516, 4096, 4097, 65535, 65536, 65537, 16777216, 16777217, INT32_MAX,
+    };
+    return edges[below(random, sizeof edges / sizeof edges[0])];
+}
+
+/* A place in the plan; half of the time within the first words of a step. */
+static size_t random_place(struct random *random, const struct plan *plan) {
+    if (plan->steps > 0 && one_in(random, 2)) {
+        size_t place = plan->step_at[below(random, plan->steps)] + below(random, 12);
+        if (place < plan->len) return place;
+    }
+    return below(random, plan->len);
+}
+
+static void change_word(struct random *random, struct plan *plan) {
+    if (plan->len == 0) return;
+    int32_t *word = &plan->words[random_place(random, plan)];
+    switch (below(random, 4)) {
+    case 0: *word = edge_word(random); break;
+    case 1: *word = plan->words[random_place(random, plan)]; break;
+    case 2: *word += *word < INT32_MAX; break;
+    default: *word -= *word > INT32_MIN;
+    }
+}
+
+/* A body length, by up to 3; the body stays. */
+static void change_length(struct random *random, struct plan *plan) {
+    if (plan->steps == 0) return;
+    size_t place = plan->step_at[below(random, plan->steps)] + 3;
+    bool good = place < plan->len && 0 < plan->words[place] && plan->words[place] <= GATE_MAX_WORDS;
+    if (good) plan->words[place] += from_to(random, -3, 3);
+}
+
+/* A matrix: its sign, or c22 such that the determinant is 0. */
+static void change_matrix(struct random *random, struct plan *plan) {
+    if (plan->steps == 0) return;
+    size_t at = plan->step_at[below(random, plan->steps)];
+    int32_t *body = plan->words + at + 4;
+    if (plan->words[at] != GATE_ELLIPSE || at + 12 > plan->len || body[4] <= 0) return;
+    if (one_in(random, 2)) {
+        int64_t c22 = (int64_t)body[5] * body[5] / body[4];
+        if (c22 <= MAX_ENTRY) body[6] = (int32_t)c22;
+    } else {
+        for (int i = 4; i < 7; i++) body[i] = body[i] == INT32_MIN ? INT32_MIN : -body[i];
+    }
+}
+
+void damage(struct random *random, struct plan *plan) {
+    int faults = from_to(random, 1, 3);
+    for (int i = 0; i < faults; i++) {
+        switch (below(random, 12)) {
+        case 0: plan->len = below(random, plan->len + 1); break;
+        case 1:
+            if (plan->len < PLAN_ROOM) add_word(plan, edge_word(random));
+            break;
+        case 2:
+            if (one_in(random, 4)) {
+                size_t len = GATE_MAX_WORDS + below(random, 3);
+                while (plan->len < len) add_word(plan, edge_word(random));
+            }
+            break;
+        case 3: change_length(random, plan); break;
+        case 4: change_matrix(random, plan); break;
+        default: change_word(random, plan);
+        }
+    }
+}
+
+/* ---- Random events ---- */
+
+static int32_t greatest_divisor(int32_t a, int32_t b) {
+    while (b != 0) {
+        int32_t rest = a % b;
+        a = b;
+        b = rest;
+    }
+    return a < 0 ? -a : a;
+}
+
+static void set_on_bound(struct random *random, const int32_t *body, size_t length, int32_t *event) {
+    for (size_t i = 0; i < length; i += 3) event[body[i]] = body[i + 1 + below(random, 2)] - from_to(random, 0, 1);
+}
+
+/* A whole point of some edge, its ends included. */
+static void set_on_edge(struct random *random, const int32_t *body, size_t length, int32_t *event) {
+    size_t vertices = (length - 2) / 2, i = below(random, vertices);
+    const int32_t *from = body + 2 + 2 * i, *to = body + 2 + 2 * ((i + 1) % vertices);
+    int32_t dx = to[0] - from[0], dy = to[1] - from[1], parts = greatest_divisor(dx, dy);
+    int32_t part = parts == 0 ? 0 : from_to(random, 0, parts);
+    event[body[0]] = from[0] + (parts == 0 ? 0 : dx / parts * part);
+    event[body[1]] = from[1] + (parts == 0 ? 0 : dy / parts * part);
+}
+
+/* One of the points that random_ellipse names. */
+static void set_on_rim(struct random *random, const int32_t *body, int32_t *event) {
+    int32_t a = (int32_t)sqrt(body[4]), b = body[5] / a, f = (int32_t)sqrt((double)body[6] - (double)b * b);
+    int32_t d = (int32_t)sqrt(body[7]), sign = one_in(random, 2) ? 1 : -1;
+    bool upright = one_in(random, 2);
+    event[body[0]] = body[2] + (upright ? 0 : sign * d * a);
+    event[body[1]] = body[3] + sign * d * (upright ? f : b);
+}
+
+/* Puts the event on a bound, an edge or the rim of some step; false when that step has none. */
+static bool aim(struct random *random, const struct plan *plan, int32_t *event) {
+    const int32_t *step = plan->words + plan->step_at[below(random, plan->steps)], *body = step + 4;
+    switch (step[0]) {
+    case GATE_BOX: set_on_bound(random, body, (size_t)step[3], event); return true;
+    case GATE_POLYGON: set_on_edge(random, body, (size_t)step[3], event); return true;
+    case GATE_ELLIPSE: set_on_rim(random, body, event); return true;
+    default: return false;
+    }
+}
+
+bool random_event(struct random *random, const struct plan *plan, int32_t *event) {
+    static const int32_t beyond[] = {INT32_MIN, MIN_VALUE - 1, MAX_VALUE + 1, INT32_MAX};
+    int n = plan->words[0];
+    for (int i = 0; i < n; i++) event[i] = near_value(random, plan);
+    bool aimed = plan->steps > 0 && !one_in(random, 3) && aim(random, plan, event);
+    bool moved = one_in(random, 3);
+    if (moved) event[below(random, n)] += one_in(random, 2) ? 1 : -1;
+    if (one_in(random, 24)) event[below(random, n)] = beyond[below(random, 4)];
+    return aimed && !moved;
+}

@@ -1,0 +1,338 @@
+/*
+ * The proved counter called from C: the worked example, one call of each kind, and every refusal with its place.
+ * Prints 'N passed, M failed'; the exit status is 1 when one failed.
+ */
+#include "gatecount.h"
+
+#include <inttypes.h>
+#include <stdio.h>
+#include <string.h>
+
+#define LENGTH(array) (sizeof(array) / sizeof((array)[0]))
+
+static int passed, failed;
+
+static void expect(int good, const char *what) {
+    if (good) {
+        passed++;
+    } else {
+        failed++;
+        printf("failed: %s\n", what);
+    }
+}
+
+static void expect_number(uint64_t is, uint64_t should, const char *what) {
+    expect(is == should, what);
+    if (is != should) printf("    %" PRIu64 ", not %" PRIu64 "\n", is, should);
+}
+
+/* ---- The worked example ---- */
+
+/*
+ * dims FSC SSC
+ * rect Live Ring FSC 300 600
+ * ellip Ring - FSC SSC 400 200 40000 0 30625 1
+ * quad Q Ring 1 FSC 1 400 Lo 0 Hi 500
+ * and Both - Live !Hi
+ */
+enum { LIVE, RING, LO, HI, BOTH };
+
+static const int32_t example[] = {
+    2, 5,                                                          /* two values, five steps */
+    GATE_ELLIPSE, RING, -1, 8, 0, 1, 400, 200, 40000, 0, 30625, 1, /* dimensions, means, c11, c12, c22, D^2 */
+    GATE_BOX, LIVE, RING, 3, 0, 300, 600,                          /* dimension, min, max */
+    GATE_BOX, LO, RING, 3, 0, -65536, 400,                         /* no min */
+    GATE_BOX, HI, RING, 3, 0, 400, 65536,                          /* no max */
+    GATE_AND, BOTH, -1, 2, 2 * LIVE, 2 * HI + 1,                   /* Live, and not Hi */
+};
+
+static const int32_t example_events[] = {600, 200, 400, 375, 599, 200, 400, 376, 350, 200, 70000, 0};
+
+static void test_example(void) {
+    static const uint64_t counts[] = {3, 4, 1, 3, 1};
+    static const uint64_t bits[] = {
+        1 << RING | 1 << HI,
+        1 << LIVE | 1 << RING | 1 << HI,
+        1 << LIVE | 1 << RING | 1 << HI,
+        0,
+        1 << LIVE | 1 << RING | 1 << LO | 1 << BOTH,
+    };
+    struct gate_answer answer = gate_check_plan(example, LENGTH(example));
+    struct gate_tally tally;
+
+    expect_number(LENGTH(example), 41, "words of the example");
+    expect_number(answer.refusal, GATE_PASSES, "example passes");
+    expect_number(answer.place, 0, "place where nothing is refused");
+
+    gate_count_events(example, LENGTH(example), example_events, LENGTH(example_events), &tally);
+    expect_number(tally.answer.refusal, GATE_PASSES, "example is counted");
+    expect_number(tally.answer.place, 0, "place of a count that is not refused");
+    expect_number(tally.taken, 5, "taken");
+    expect_number(tally.spoilt, 1, "spoilt");
+    for (size_t i = 0; i < GATE_REGIONS; i++) {
+        expect_number(tally.counts[i], i < LENGTH(counts) ? counts[i] : 0, "count of a region");
+    }
+
+    for (size_t i = 0; i < LENGTH(bits); i++) {
+        struct gate_judgement judgement = gate_judge_event(example, LENGTH(example), example_events + 2 * i, 2);
+        expect_number(judgement.answer.refusal, GATE_PASSES, "event is judged");
+        expect_number(judgement.answer.place, 0, "place of a judging that is not refused");
+        expect_number(judgement.bits, bits[i], "bits of an event");
+    }
+    expect(gate_is_member(bits[0], RING) && !gate_is_member(bits[0], LIVE), "members by bits");
+}
+
+/* ---- Shapes ---- */
+
+/* Whether the event is a member of region 0. */
+static int is_in(const int32_t *plan, size_t plan_len, int32_t x, int32_t y) {
+    const int32_t event[] = {x, y};
+    struct gate_judgement judgement = gate_judge_event(plan, plan_len, event, LENGTH(event));
+    expect_number(judgement.answer.refusal, GATE_PASSES, "event of a shape is judged");
+    return gate_is_member(judgement.bits, 0);
+}
+
+static void test_shapes(void) {
+    static const int32_t box[] = {2, 1, GATE_BOX, 0, -1, 6, 1, -5, 5, 0, -65536, 65536};
+    expect(is_in(box, LENGTH(box), 65535, -5), "min is in the box");
+    expect(!is_in(box, LENGTH(box), 0, 5), "max is not in the box");
+
+    static const int32_t triangle[] = {2, 1, GATE_POLYGON, 0, -1, 8, 0, 1, 0, 0, 10, 0, 10, 10};
+    expect(is_in(triangle, LENGTH(triangle), 9, 5), "triangle holds its inside");
+    expect(is_in(triangle, LENGTH(triangle), 5, 5), "triangle holds its edge");
+    expect(!is_in(triangle, LENGTH(triangle), 4, 5), "triangle ends at its edge");
+    expect(!is_in(triangle, LENGTH(triangle), -1, 0), "level with the base");
+    expect(!is_in(triangle, LENGTH(triangle), 0, 10), "level with the top");
+    expect(!is_in(triangle, LENGTH(triangle), 10, 11), "above an upright edge");
+
+    static const int32_t widest[] = {2, 1, GATE_POLYGON, 0, -1, 8, 1, 0, -65536, -65536, -65536, 65535, 65535, -65536};
+    expect(is_in(widest, LENGTH(widest), -1, 0), "widest triangle holds its edge");
+    expect(is_in(widest, LENGTH(widest), -1, -1), "widest triangle holds its inside");
+    expect(!is_in(widest, LENGTH(widest), 0, 0), "widest triangle ends at its edge");
+
+    static const int32_t square_twice[] = {2, 1, GATE_POLYGON, 0, -1, 18, 0, 1,
+                                           0, 0, 10, 0, 10, 10, 0, 10, 0, 0, 10, 0, 10, 10, 0, 10};
+    expect(is_in(square_twice, LENGTH(square_twice), 5, 5), "square walked twice holds its middle");
+    expect(is_in(square_twice, LENGTH(square_twice), 10, 5), "square walked twice holds its edge");
+    expect(!is_in(square_twice, LENGTH(square_twice), 11, 5), "square walked twice ends at its edge");
+
+    static const int32_t flat[] = {2, 1, GATE_POLYGON, 0, -1, 8, 0, 1, 0, 0, 4, 0, 8, 0};
+    expect(is_in(flat, LENGTH(flat), 4, 0), "flat triangle holds its edge");
+    expect(!is_in(flat, LENGTH(flat), 4, 1), "flat triangle holds nothing else");
+
+    static const int32_t ellipse[] = {2, 1, GATE_ELLIPSE, 0, -1, 8, 0, 1, 0, 0, 5, 6, 9, 1};
+    expect(is_in(ellipse, LENGTH(ellipse), 0, 0), "ellipse holds its mean");
+    expect(is_in(ellipse, LENGTH(ellipse), 2, 3), "ellipse holds its rim");
+    expect(!is_in(ellipse, LENGTH(ellipse), 3, 2), "ellipse ends at its rim");
+
+    static const int32_t wide[] = {2, 1, GATE_ELLIPSE, 0, -1, 8, 0, 1, -65536, 0, 16777216, 0, 16777216, 256};
+    expect(is_in(wide, LENGTH(wide), 0, 0), "wide ellipse holds its rim");
+    expect(!is_in(wide, LENGTH(wide), 0, 1), "wide ellipse ends at its rim");
+
+    static const int32_t level[] = {2, 1, GATE_ELLIPSE, 0, -1, 8, 0, 1, 0, 0, 3000000, 0, 2000000, 1000};
+    expect(is_in(level, LENGTH(level), 54772, 0), "level ellipse holds what is just inside its rim");
+    expect(!is_in(level, LENGTH(level), 54773, 0), "level ellipse does not hold what is just outside");
+
+    static const int32_t either[] = {2, 3, GATE_BOX, 1, -1, 3, 0, 0, 10, GATE_BOX, 2, -1, 3, 1, 0, 10,
+                                     GATE_OR, 0, -1, 2, 2 * 1, 2 * 2 + 1};
+    expect(is_in(either, LENGTH(either), 5, 5), "or by its first operand");
+    expect(is_in(either, LENGTH(either), 50, 50), "or by its second operand");
+    expect(!is_in(either, LENGTH(either), 50, 5), "or by none");
+
+    static const int32_t other[] = {2, 2, GATE_BOX, 1, -1, 3, 0, 0, 10, GATE_NOT, 0, -1, 1, 2 * 1};
+    expect(is_in(other, LENGTH(other), 10, 5), "not: outside");
+    expect(!is_in(other, LENGTH(other), 9, 5), "not: inside");
+}
+
+/* 64 boxes in a line: region r holds the values from r on. */
+static void test_all_regions(void) {
+    static int32_t plan[2 + 7 * GATE_REGIONS] = {1, GATE_REGIONS};
+    static const int32_t events[] = {63, 0, 62, -1};
+    for (int r = 0; r < GATE_REGIONS; r++) {
+        const int32_t step[] = {GATE_BOX, r, r - 1, 3, 0, r, 65536};
+        memcpy(plan + 2 + 7 * r, step, sizeof step);
+    }
+    struct gate_tally tally;
+    gate_count_events(plan, LENGTH(plan), events, LENGTH(events), &tally);
+    expect_number(tally.taken, 4, "taken by 64 regions");
+    for (int r = 0; r < GATE_REGIONS; r++) {
+        expect_number(tally.counts[r], r == 0 ? 3 : r < 63 ? 2 : 1, "count of one of 64 regions");
+    }
+    expect_number(gate_judge_event(plan, LENGTH(plan), events, 1).bits, UINT64_MAX, "member of all 64 regions");
+}
+
+/* ---- Refusals ---- */
+
+/* The plan must be refused with this number and place by all three functions, whatever the events are. */
+static void expect_refused(const char *what, const int32_t *plan, size_t plan_len, uint64_t number, uint64_t place) {
+    uint64_t checked[GATE_CHECK_OUT], judged[GATE_JUDGE_OUT], counted[GATE_COUNT_OUT], refused[GATE_COUNT_OUT] = {0};
+    refused[GATE_OUT_REFUSAL] = number;
+    refused[GATE_OUT_PLACE] = place;
+    memset(checked, 0xFF, sizeof checked);
+    memset(judged, 0xFF, sizeof judged);
+    memset(counted, 0xFF, sizeof counted);
+    gate_check(plan, plan_len, checked);
+    gate_judge(plan, plan_len, example_events, 3, judged);
+    gate_count(plan, plan_len, example_events, LENGTH(example_events), counted);
+    expect_number(checked[GATE_OUT_REFUSAL], number, what);
+    expect_number(checked[GATE_OUT_PLACE], place, what);
+    expect(memcmp(judged, refused, sizeof judged) == 0, what);
+    expect(memcmp(counted, refused, sizeof counted) == 0, what);
+}
+
+struct form_case {
+    const char *what;
+    uint64_t place;
+    size_t len;
+    int32_t words[24];
+};
+
+/* Plans that are malformed, and the place. */
+static const struct form_case malformed[] = {
+    {"empty plan", 0, 0, {0}},
+    {"n is 0", 0, 1, {0}},
+    {"n is 9", 0, 2, {9, 0}},
+    {"plan of one word", 1, 1, {2}},
+    {"65 steps", 1, 2, {2, 65}},
+    {"-1 steps", 1, 2, {2, -1}},
+    {"words run out before a step", 2, 2, {2, 1}},
+    {"kind 0", 2, 3, {2, 1, 0}},
+    {"kind 7", 2, 7, {2, 1, 7, 0, -1, 1, 0}},
+    {"words run out in a header", 3, 3, {2, 1, 1}},
+    {"region not below the step count", 3, 9, {2, 1, 1, 1, -1, 3, 0, 0, 1}},
+    {"region set twice", 10, 16, {2, 2, 1, 0, -1, 3, 0, 0, 1, 1, 0, -1, 3, 0, 0, 1}},
+    {"parent is -2", 4, 9, {2, 1, 1, 0, -2, 3, 0, 0, 1}},
+    {"parent is the region itself", 4, 9, {2, 1, 1, 0, 0, 3, 0, 0, 1}},
+    {"parent is a later region", 4, 16, {2, 2, 1, 0, 1, 3, 0, 0, 1, 1, 1, -1, 3, 0, 0, 1}},
+    {"box of 4 words", 5, 10, {2, 1, 1, 0, -1, 4, 0, 0, 1, 1}},
+    {"box of 27 words", 5, 6, {2, 1, 1, 0, -1, 27}},
+    {"bad dimension in a plan cut off", 6, 7, {2, 1, 1, 0, -1, 3, 5}},
+    {"words run out in a box", 8, 8, {2, 1, 1, 0, -1, 3, 0, 0}},
+    {"dimension twice in a box", 9, 12, {2, 1, 1, 0, -1, 6, 0, 0, 1, 0, 0, 1}},
+    {"min below the range", 7, 9, {2, 1, 1, 0, -1, 3, 0, -65537, 1}},
+    {"min above the range", 7, 9, {2, 1, 1, 0, -1, 3, 0, 65536, 65536}},
+    {"max above the range", 8, 9, {2, 1, 1, 0, -1, 3, 0, 0, 65537}},
+    {"min and max equal", 8, 9, {2, 1, 1, 0, -1, 3, 0, 5, 5}},
+    {"polygon of two vertices", 5, 12, {2, 1, 2, 0, -1, 6, 0, 1, 0, 0, 4, 0}},
+    {"polygon of 9 words", 5, 15, {2, 1, 2, 0, -1, 9, 0, 1, 0, 0, 4, 0, 8, 0, 0}},
+    {"polygon of 516 words", 5, 6, {2, 1, 2, 0, -1, 516}},
+    {"polygon with a dimension twice", 7, 14, {2, 1, 2, 0, -1, 8, 1, 1, 0, 0, 4, 0, 8, 0}},
+    {"polygon in one dimension", 7, 14, {1, 1, 2, 0, -1, 8, 0, 1, 0, 0, 4, 0, 8, 0}},
+    {"vertex off the range", 13, 14, {2, 1, 2, 0, -1, 8, 0, 1, 0, 0, 4, 0, 8, 65536}},
+    {"ellipse of 7 words", 5, 13, {2, 1, 3, 0, -1, 7, 0, 1, 0, 0, 5, 6, 9}},
+    {"mean off the range", 9, 14, {2, 1, 3, 0, -1, 8, 0, 1, 0, -65537, 5, 6, 9, 1}},
+    {"matrix 4, 6, 9", 10, 14, {2, 1, 3, 0, -1, 8, 0, 1, 0, 0, 4, 6, 9, 1}},
+    {"matrix -5, 6, -9", 10, 14, {2, 1, 3, 0, -1, 8, 0, 1, 0, 0, -5, 6, -9, 1}},
+    {"bad matrix before a bad D^2", 10, 14, {2, 1, 3, 0, -1, 8, 0, 1, 0, 0, 4, 6, 9, 0}},
+    {"bad matrix in a plan cut off", 10, 13, {2, 1, 3, 0, -1, 8, 0, 1, 0, 0, 4, 6, 9}},
+    {"matrix cut off", 12, 12, {2, 1, 3, 0, -1, 8, 0, 1, 0, 0, 0, 6}},
+    {"entry off the range before the matrix", 11, 14, {2, 1, 3, 0, -1, 8, 0, 1, 0, 0, 0, 16777217, 9, 1}},
+    {"D^2 is 0", 13, 14, {2, 1, 3, 0, -1, 8, 0, 1, 0, 0, 5, 6, 9, 0}},
+    {"D^2 is 4097", 13, 14, {2, 1, 3, 0, -1, 8, 0, 1, 0, 0, 5, 6, 9, 4097}},
+    {"and of 64 operands", 5, 6, {2, 1, 4, 0, -1, 64}},
+    {"entry below the range", 10, 11, {2, 1, 3, 0, -1, 8, 0, 1, 0, 0, -16777217}},
+    {"and of one operand", 12, 14, {2, 2, 1, 0, -1, 3, 0, 0, 1, 4, 1, -1, 1, 0}},
+    {"not of two operands", 12, 15, {2, 2, 1, 0, -1, 3, 0, 0, 1, 6, 1, -1, 2, 0, 0}},
+    {"operand of a region that is not set", 6, 8, {2, 3, 5, 0, -1, 2, 2, 5}},
+    {"operand -1", 13, 14, {2, 2, 1, 0, -1, 3, 0, 0, 1, 6, 1, -1, 1, -1}},
+    {"operand is the region itself", 14, 15, {2, 2, 1, 0, -1, 3, 0, 0, 1, 5, 1, -1, 2, 1, 2}},
+    {"operand beyond all regions", 13, 14, {2, 2, 1, 0, -1, 3, 0, 0, 1, 6, 1, -1, 1, 128}},
+    {"word left over", 2, 3, {1, 0, 1}},
+    {"step left over", 9, 16, {2, 1, 1, 0, -1, 3, 0, 0, 1, 1, 0, -1, 3, 0, 0, 1}},
+};
+
+/* Plans that pass though they are near a limit. */
+static const struct form_case good[] = {
+    {"no step", 0, 2, {1, 0}},
+    {"widest box", 0, 9, {8, 1, 1, 0, -1, 3, 7, -65536, 65536}},
+    {"regions in any order", 0, 16, {2, 2, 1, 1, -1, 3, 0, 0, 1, 1, 0, 1, 3, 0, 0, 1}},
+    {"vertices at the ends", 0, 14, {2, 1, 2, 0, -1, 8, 1, 0, -65536, 65535, 65535, 65535, 0, -65536}},
+    {"matrix 5, 6, 9", 0, 14, {2, 1, 3, 0, -1, 8, 0, 1, 0, 0, 5, 6, 9, 1}},
+    {"greatest matrix", 0, 14, {2, 1, 3, 0, -1, 8, 0, 1, 0, 0, 16777216, -16777215, 16777216, 4096}},
+};
+
+static void test_form(void) {
+    for (size_t i = 0; i < LENGTH(malformed); i++) {
+        const struct form_case *plan = &malformed[i];
+        expect_refused(plan->what, plan->words, plan->len, GATE_MALFORMED_PLAN, plan->place);
+    }
+    for (size_t i = 0; i < LENGTH(good); i++) {
+        struct gate_answer answer = gate_check_plan(good[i].words, good[i].len);
+        expect_number(answer.refusal, GATE_PASSES, good[i].what);
+        expect_number(answer.place, 0, good[i].what);
+    }
+    for (size_t i = 0; i < LENGTH(example); i++) {
+        expect_refused("example cut off", example, i, GATE_MALFORMED_PLAN, i);
+    }
+}
+
+/* 2,023 vertices in eight polygons make a plan of 4,096 words. */
+static void test_longest_plan(void) {
+    static int32_t plan[GATE_MAX_WORDS + 1];
+    size_t len = 0;
+    plan[len++] = 2;
+    plan[len++] = 8;
+    for (int step = 0; step < 8; step++) {
+        int vertices = step < 7 ? 256 : 2023 - 7 * 256;
+        plan[len++] = GATE_POLYGON;
+        plan[len++] = step;
+        plan[len++] = GATE_NO_PARENT;
+        plan[len++] = 2 + 2 * vertices;
+        plan[len++] = 0;
+        plan[len++] = 1;
+        for (int vertex = 0; vertex < vertices; vertex++) {
+            plan[len++] = vertex;
+            plan[len++] = vertex * vertex % 1000;
+        }
+    }
+    expect_number(len, GATE_MAX_WORDS, "words of the longest plan");
+    expect_number(gate_check_plan(plan, len).refusal, GATE_PASSES, "longest plan passes");
+    expect_refused("one word more", plan, len + 1, GATE_LONG_PLAN, 0);
+    plan[0] = 0;
+    expect_refused("one word more in a malformed plan", plan, len + 1, GATE_LONG_PLAN, 0);
+    expect_refused("longest plan, malformed", plan, len, GATE_MALFORMED_PLAN, 0);
+}
+
+static void expect_judged(const char *what, const int32_t *event, size_t event_len, uint64_t number, uint64_t place) {
+    struct gate_judgement judgement = gate_judge_event(example, LENGTH(example), event, event_len);
+    expect_number(judgement.answer.refusal, number, what);
+    expect_number(judgement.answer.place, place, what);
+    if (number != GATE_PASSES) expect_number(judgement.bits, 0, what);
+}
+
+static void test_events(void) {
+    static const int32_t spoilt_first[] = {70000, 0}, spoilt_later[] = {0, -65537}, spoilt_both[] = {65536, 65536};
+    static const int32_t ends[] = {-65536, 65535}, spoilt_and_ragged[] = {70000, 0, 0};
+    static const uint64_t none[GATE_COUNT_OUT];
+    uint64_t out[GATE_COUNT_OUT], refused[GATE_COUNT_OUT] = {0};
+
+    expect_judged("first value spoilt", spoilt_first, 2, GATE_SPOILT, 0);
+    expect_judged("later value spoilt", spoilt_later, 2, GATE_SPOILT, 1);
+    expect_judged("both values spoilt", spoilt_both, 2, GATE_SPOILT, 0);
+    expect_judged("values at the ends", ends, 2, GATE_PASSES, 0);
+    expect_judged("event of no value", ends, 0, GATE_RAGGED, 0);
+    expect_judged("event of one value", ends, 1, GATE_RAGGED, 1);
+    expect_judged("ragged before spoilt", spoilt_and_ragged, 3, GATE_RAGGED, 3);
+
+    for (size_t len = 1; len < LENGTH(example_events); len += 2) {
+        memset(out, 0xFF, sizeof out);
+        refused[GATE_OUT_REFUSAL] = GATE_RAGGED;
+        refused[GATE_OUT_PLACE] = len;
+        gate_count(example, LENGTH(example), example_events, len, out);
+        expect(memcmp(out, refused, sizeof out) == 0, "ragged list");
+    }
+    memset(out, 0xFF, sizeof out);
+    gate_count(example, LENGTH(example), example_events, 0, out);
+    expect(memcmp(out, none, sizeof out) == 0, "list of no event");
+}
+
+int main(void) {
+    test_example();
+    test_shapes();
+    test_all_regions();
+    test_form();
+    test_longest_plan();
+    test_events();
+    printf("%d passed, %d failed\n", passed, failed);
+    return failed != 0;
+}

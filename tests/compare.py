@@ -1,0 +1,379 @@
+#!/usr/bin/env python3
+"""Compares a real gate counter with the reference, which was written apart from it.
+
+    tests/compare.py --gatecount PATH [--plans PATH] [--seed S] [--inputs N] [--keep FOLDER]
+    tests/compare.py --plant FAULT ...      with a fault planted in the reference
+    tests/compare.py --mutations ...        each planted fault in turn: all must be seen
+
+A PATH may carry arguments ("python3 tests/reference/standin.py gatecount").
+
+What is compared:
+
+* Each of N generated standard inputs goes through the executable at --gatecount and
+  its standard output must be the reference's, byte for byte.
+* For some accepted tables the gate lines are put into other orders: the real program
+  must give each region the same count under its name, and the same taken and spoilt.
+* In what the real program prints, the counts of a quadrant gate's quadrants must add up
+  to the count of its parent, or to the taken when it has none.
+* Each of N generated questions goes to the executable at --plans, and its answer must
+  be the reference's, word for word.
+
+The exit status is 0 when nothing differs; the last line is "N passed, M failed".
+
+
+The questions to --plans
+------------------------
+
+The executable reads questions from standard input, one a line, to the end of input, and
+writes one answer line for each, in the same order.  Fields are parted by one space, lines
+end in LF, numbers are decimal.  All words and values fit signed 32 bits.  A list has at
+most 5,000 numbers, a slice at most 9,000 words and a line at most 100,000 bytes.
+
+    check K w1 .. wK                   K words of a plan
+        -> number place                0 0 when the plan passes
+
+    judge K w1 .. wK M v1 .. vM        a plan and one event of M values
+        -> number place bits           bits: 64 characters 0 or 1, region 0 first
+
+    count K w1 .. wK M v1 .. vM        a plan and a flat list of M values
+        -> number place taken spoilt c0 c1 .. c63
+
+    compile S HEX                      a slice of S words and the table's bytes, two lower-case
+                                       hexadecimal digits each; `-` stands for an empty table
+        -> number place words regions beyond w1 .. wWORDS
+
+For `compile` the executable lends a slice of S words, each holding 77777777 (which no
+word of a plan may be).  `words` and `regions` are what compiling reports (0 0 when
+refused), the words that follow are the first `words` words of the slice afterwards, and
+`beyond` is how many of the slice's other words no longer hold 77777777: always 0.
+"""
+
+import argparse
+import collections
+import os
+import random
+import re
+import shlex
+import shutil
+import subprocess
+import sys
+
+HERE = os.path.dirname(os.path.abspath(__file__))
+sys.path.insert(0, os.path.join(HERE, 'reference'))
+
+import gates
+import generate
+import plants
+
+BATCH = 300         # questions for one process
+PATIENCE = 20       # seconds for one process
+KEPT = 20           # differing inputs kept
+SHOWN = 10          # differing inputs told of
+
+
+# ---------------------------------------------------------------- the real program
+
+def command(path):
+    """A path as it stands if there is such a file, else a command with arguments."""
+    if os.path.exists(path):
+        return [os.path.abspath(path)]
+    args = shlex.split(path)
+    if not args or not shutil.which(args[0]):
+        raise argparse.ArgumentTypeError('no such program: %s' % path)
+    return args
+
+
+def run(args, data):
+    """What a process writes to standard output, or None if it hangs or is killed.
+
+    The paper gives no exit status, so none is asked for.
+    """
+    try:
+        done = subprocess.run(args, input=data, stdout=subprocess.PIPE,
+                              stderr=subprocess.DEVNULL, timeout=PATIENCE)
+    except subprocess.TimeoutExpired:
+        return None
+    return None if done.returncode < 0 else done.stdout
+
+
+def ask(args, questions):
+    """The answers of the real program, None for a question that it gave no answer to."""
+    answers = []
+    while len(answers) < len(questions):
+        left = questions[len(answers):]
+        try:
+            output = subprocess.run(args, input=b''.join(line + b'\n' for line in left),
+                                    stdout=subprocess.PIPE, stderr=subprocess.DEVNULL,
+                                    timeout=PATIENCE).stdout
+        except subprocess.TimeoutExpired as late:
+            output = late.stdout or b''
+        # What stands after the last LF is no whole answer.
+        whole = output.split(b'\n')[:-1]
+        if len(whole) > len(left):      # a question answered twice spoils the last answer
+            whole[len(left) - 1:] = [b' and '.join(whole[len(left) - 1:])]
+        answers += whole
+        if len(whole) < len(left):
+            answers.append(None)
+    return answers
+
+
+# ---------------------------------------------------------------- questions
+
+def listed(values):
+    return ' '.join([str(len(values))] + [str(value) for value in values])
+
+
+def question_line(question):
+    verb = question[0]
+    if verb == 'compile':
+        return ('compile %d %s' % (question[1], question[2].hex() or '-')).encode()
+    return ' '.join([verb] + [listed(values) for values in question[1:]]).encode()
+
+
+def reference_answer(question):
+    verb = question[0]
+    if verb == 'check':
+        return b'%d %d' % gates.check_plan(question[1])
+    if verb == 'judge':
+        number, place, bits = gates.judge(question[1], question[2])
+        return b'%d %d ' % (number, place) + ''.join(
+            '1' if bits >> region & 1 else '0' for region in range(64)).encode()
+    if verb == 'count':
+        number, place, taken, spoilt, counts = gates.count(question[1], question[2])
+        return ' '.join(map(str, [number, place, taken, spoilt] + counts)).encode()
+    number, place, words, names = gates.compile_table(question[2], question[1])
+    words = words or []
+    return ' '.join(map(str, [number, place, len(words), len(names), 0] + words)).encode()
+
+
+# ---------------------------------------------------------------- printed outputs
+
+def refusal(output):
+    """The number refused with, 0 for an accepted input; None for anything else."""
+    if output is None:
+        return None
+    lines = output.split(b'\n')
+    fields = lines[0].split(b'\t')
+    # A region may be called `refused`: its line has two fields and isn't the only one.
+    if len(lines) == 2 and len(fields) == 3 and fields[0] == b'refused':
+        return int(fields[1])
+    return 0
+
+
+def printed_counts(output):
+    """(counts by name, taken, spoilt) of an accepted input, or None."""
+    if refusal(output) != 0:
+        return None
+    try:
+        lines = [line.split(b'\t') for line in output.split(b'\n')[:-1]]
+        (taken, taken_count), (spoilt, spoilt_count) = lines[-2:]
+        if (taken, spoilt) != (b'taken', b'spoilt'):
+            return None
+        return {name: int(number) for name, number in lines[:-2]}, int(taken_count), int(spoilt_count)
+    except (ValueError, IndexError):
+        return None
+
+
+def table_fields(data):
+    """The fields of the gate lines of an input."""
+    table = gates.part_input(data)[0]
+    return [line.split(b'\t') for line in table.split(b'\n')[1:-1]]
+
+
+def quadrants_add_up(data, output):
+    """None when there is no quadrant gate, else whether all their counts add up."""
+    quads = [fields for fields in table_fields(data) if fields[0] == b'quad']
+    if not quads:
+        return None
+    printed = printed_counts(output)
+    if printed is None:
+        return False
+    counts, taken, _ = printed
+    for fields in quads:
+        gate = gates.read_gate(fields)
+        whole = taken if gate.parent == b'-' else counts.get(gate.parent)
+        if sum(counts.get(name, 0) for name, _ in gate.quadrants) != whole:
+            return False
+    return True
+
+
+# ---------------------------------------------------------------- the comparison
+
+class Comparison:
+    def __init__(self, options):
+        self.options = options
+        self.passed = self.failed = 0
+        self.refusals = collections.Counter()
+        self.kinds = collections.Counter()
+        self.labels = collections.Counter()
+        self.questions = collections.Counter()
+        self.orders = self.sums = 0
+
+    def note(self, good, what, given=b'', expected=b'', actual=b''):
+        if good:
+            self.passed += 1
+            return
+        self.failed += 1
+        if self.failed <= SHOWN:
+            print('DIFFERS %s\n  reference %s\n  program   %s' % (what, short(expected), short(actual)))
+        if self.options.keep and self.failed <= KEPT:
+            os.makedirs(self.options.keep, exist_ok=True)
+            stem = os.path.join(self.options.keep, re.sub('[^A-Za-z0-9]+', '-', what).strip('-'))
+            for ending, content in (('input', given), ('expected', expected), ('actual', actual)):
+                with open('%s.%s' % (stem, ending), 'wb') as file:
+                    file.write(content if content is not None else b'(no answer)\n')
+
+    def reference(self, function, given):
+        with plants.planted(self.options.plant):
+            return function(given)
+
+    def one_input(self, number):
+        case = generate.case(self.options.seed, number)
+        expected = self.reference(gates.gatecount, case.data)
+        actual = run(self.options.gatecount, case.data)
+        self.labels[case.label] += 1
+        self.refusals[refusal(expected)] += 1
+        self.note(actual == expected, 'input %d (%s)' % (number, case.label), case.data, expected, actual)
+        if refusal(expected) != 0:
+            return
+        for fields in table_fields(case.data):
+            self.kinds[fields[0]] += 1
+        good = quadrants_add_up(case.data, actual)
+        if good is not None:
+            self.sums += 1
+            self.note(good, 'quadrant sums of input %d' % number, case.data, expected, actual)
+        if case.lines:
+            self.other_orders(number, case, actual)
+
+    def other_orders(self, number, case, first):
+        """The same counts by name whatever the order of the lines, by the real program alone."""
+        rng = random.Random('%s order %d' % (self.options.seed, number))
+        for turn, table in enumerate(generate.orders(rng, case.lines, self.options.orders)):
+            data = table + case.list
+            actual = run(self.options.gatecount, data)
+            self.orders += 1
+            counts = printed_counts(actual)
+            self.note(counts is not None and counts == printed_counts(first),
+                      'order %d of input %d' % (turn, number), data, first, actual)
+            expected = self.reference(gates.gatecount, data)
+            self.note(actual == expected, 'input %d in order %d' % (number, turn), data, expected, actual)
+            good = quadrants_add_up(data, actual)
+            if good is not None:
+                self.sums += 1
+                self.note(good, 'quadrant sums of input %d in order %d' % (number, turn),
+                          data, expected, actual)
+
+    def some_questions(self, numbers):
+        asked = [generate.request(self.options.seed, number) for number in numbers]
+        lines = [question_line(question) for _, question in asked]
+        answers = ask(self.options.plans, lines)
+        for number, (label, question), line, actual in zip(numbers, asked, lines, answers):
+            expected = self.reference(reference_answer, question)
+            self.questions[question[0], int(expected.split(b' ')[0])] += 1
+            self.note(actual == expected, 'question %d (%s)' % (number, label), line + b'\n', expected, actual)
+
+    def run(self):
+        options = self.options
+        if options.gatecount:
+            for number in range(options.inputs):
+                self.one_input(number)
+            print('standard inputs: ' + spread(self.labels))
+            print('refusals: ' + spread({'accepted' if number == 0 else number: times
+                                         for number, times in sorted(self.refusals.items())}, False))
+            print('kinds in accepted tables: ' + spread({kind.decode(): times
+                                                         for kind, times in self.kinds.items()}))
+            print('other orders run: %d; quadrant sums: %d' % (self.orders, self.sums))
+        if options.plans:
+            for start in range(0, options.inputs, BATCH):
+                self.some_questions(range(start, min(start + BATCH, options.inputs)))
+            for verb in ('check', 'judge', 'count', 'compile'):
+                print('%s: %s' % (verb, spread({number: times for (other, number), times
+                                                in sorted(self.questions.items()) if other == verb}, False)))
+
+
+def spread(tally, by_number=True):
+    items = sorted(tally.items(), key=lambda item: -item[1]) if by_number else tally.items()
+    return ', '.join('%s %d' % item for item in items)
+
+
+def short(output):
+    if output is None:
+        return '(no answer)'
+    return repr(output if len(output) <= 300 else output[:300] + b'..')
+
+
+# ---------------------------------------------------------------- planted faults
+
+def mutations(options):
+    """Asks the real program once and lays each planted fault beside its answers."""
+    seen_failed = 0
+    inputs, questions = [], []
+    if options.gatecount:
+        data = [generate.case(options.seed, number).data for number in range(options.inputs)]
+        inputs = [(each, run(options.gatecount, each)) for each in data]
+    if options.plans:
+        asked = [generate.request(options.seed, number)[1] for number in range(options.inputs)]
+        for start in range(0, len(asked), BATCH):
+            some = asked[start:start + BATCH]
+            questions += zip(some, ask(options.plans, [question_line(each) for each in some]))
+
+    def differing(limit):
+        """The first few differences, as words."""
+        found = []
+        for number, (given, actual) in enumerate(inputs):
+            if gates.gatecount(given) != actual:
+                found.append('input %d' % number)
+                if len(found) == limit:
+                    break
+        enough = len(found) + limit
+        for number, (question, actual) in enumerate(questions):
+            if reference_answer(question) != actual:
+                found.append('question %d' % number)
+                if len(found) == enough:
+                    break
+        return found
+
+    plain = differing(3)
+    if plain:
+        print('differs without any fault planted: ' + ', '.join(plain))
+        seen_failed += 1
+    passed = 0
+    for name in plants.PLANTS:
+        with plants.planted(name):
+            found = differing(2)
+        print('%-28s %s' % (name, 'seen at ' + ', '.join(found) if found else 'NOT SEEN'))
+        if found:
+            passed += 1
+        else:
+            seen_failed += 1
+    return passed, seen_failed
+
+
+def main():
+    parser = argparse.ArgumentParser(description='Compare a gate counter with the reference.')
+    parser.add_argument('--gatecount', type=command, metavar='PATH')
+    parser.add_argument('--plans', type=command, metavar='PATH')
+    parser.add_argument('--seed', default='1')
+    parser.add_argument('--inputs', type=int, default=3000, metavar='N')
+    parser.add_argument('--orders', type=int, default=3, metavar='K', help='other orders of a table at most')
+    parser.add_argument('--keep', metavar='FOLDER', help='where the first differing inputs go')
+    parser.add_argument('--plant', choices=sorted(plants.PLANTS), metavar='FAULT',
+                        help='one of: ' + ', '.join(sorted(plants.PLANTS)))
+    parser.add_argument('--mutations', action='store_true')
+    options = parser.parse_args()
+    if not options.gatecount and not options.plans:
+        parser.error('neither --gatecount nor --plans is given')
+
+    print('seed %s, %d inputs' % (options.seed, options.inputs))
+    if options.mutations:
+        passed, failed = mutations(options)
+    else:
+        comparison = Comparison(options)
+        comparison.run()
+        passed, failed = comparison.passed, comparison.failed
+    print('%d passed, %d failed' % (passed, failed))
+    sys.exit(1 if failed else 0)
+
+
+if __name__ == '__main__':
+    main()

@@ -1,0 +1,783 @@
+"""The gate counter, written apart from the main program and straight from paper 01.
+
+Nothing here is shared with the main program, so that a misreading or a slip in one
+of the two shows as a difference.  All numbers are Python's whole numbers: nothing
+overflows and nothing is rounded.  Speed and cleverness are left out on purpose.
+
+Names and table text are bytes throughout, since a table is bytes.
+
+    compile_table(table, slice_words) -> (number, place, words or None, region names)
+    check_plan(words)                 -> (number, place)
+    judge(words, event)               -> (number, place, bits)
+    count(words, values)              -> (number, place, taken, spoilt, 64 counts)
+    members(table, event)             -> set of region names, with no plan between
+    gatecount(data)                   -> the program's whole standard output
+
+A number of 0 (with place 0) says that nothing was refused.
+"""
+
+import itertools
+import re
+
+TABLE_BYTES = 32768
+INPUT_BYTES = 65536
+PLAN_WORDS = 4096
+REGIONS = 64
+
+LOWEST, HIGHEST = -65536, 65535         # the values of an event taken
+NO_MIN, NO_MAX = -65536, 65536          # the words for a missing bound
+ENTRY = 16777216                        # c11, c12, c22 lie within plus and minus this
+WIDEST = 4096                           # the greatest D2
+
+# 01, "Table lines": the ranges by the role of a field.
+MIN_RANGE = (-65536, 65535)
+MAX_RANGE = (-65535, 65536)
+POINT_RANGE = (-65536, 65535)           # vertex, mean, representative
+DIVIDER_RANGE = (-65535, 65535)
+ENTRY_RANGE = (-ENTRY, ENTRY)
+D2_RANGE = (1, WIDEST)
+
+KINDS = (b'rect', b'poly', b'ellip', b'quad', b'and', b'or', b'not')
+BOX, POLYGON, ELLIPSE, AND, OR, NOT = 1, 2, 3, 4, 5, 6
+
+NAME = re.compile(rb'[A-Za-z][A-Za-z0-9_-]{0,15}')
+NUMBER = re.compile(rb'0|-?[1-9][0-9]*')
+
+
+# ---------------------------------------------------------------- names and numbers
+
+def is_name(field):
+    return NAME.fullmatch(field) is not None
+
+
+def is_parent(field):
+    return field == b'-' or is_name(field)
+
+
+def is_operand(field):
+    return is_name(field[1:] if field[:1] == b'!' else field)
+
+
+def is_number(field):
+    """The form alone: a number of forty digits has a good form."""
+    return NUMBER.fullmatch(field) is not None
+
+
+def number_value(field):
+    """The whole number of a well-formed field, however long.
+
+    The digits are taken by pieces because Python refuses very long ones at once.
+    """
+    if len(field) <= 4000:
+        return int(field)
+    digits = field.lstrip(b'-')
+    value = 0
+    for start in range(0, len(digits), 4000):
+        piece = digits[start:start + 4000]
+        value = value * 10 ** len(piece) + int(piece)
+    return -value if field[:1] == b'-' else value
+
+
+def within(value, limits):
+    return limits[0] <= value <= limits[1]
+
+
+# ---------------------------------------------------------------- one table line
+
+class Gate:
+    """A gate line whose number of fields is right; the fields are still text."""
+
+    def __init__(self, kind, name, parent):
+        self.line = 0
+        self.kind = kind
+        self.name = name
+        self.parent = parent
+        self.dimensions = []    # every field that names a dimension, from the left
+        self.numbers = []       # (field, range, whether `*` may stand there)
+        self.bounds = []        # rect: (dimension, min, max)
+        self.vertices = []      # poly: x, y, x, y, ..
+        self.ellipse = []       # ellip: the two means, c11, c12, c22, D2
+        self.dividers = []      # quad: (dimension, [values])
+        self.quadrants = []     # quad: (name, [representative or `*` per divider])
+        self.operands = []      # and, or, not
+
+    def regions(self):
+        """A gate has one region, a quadrant gate one per quadrant and none of its own."""
+        if self.kind == b'quad':
+            return [name for name, _ in self.quadrants]
+        return [self.name]
+
+    def references(self):
+        """The names that the line refers to: its parent and its operands."""
+        names = [] if self.parent == b'-' else [self.parent]
+        return names + [operand_name(operand) for operand in self.operands]
+
+
+def operand_name(operand):
+    return operand[1:] if operand[:1] == b'!' else operand
+
+
+def quad_count(field):
+    """A count in `quad` is one digit, 1 to 3; None for anything else."""
+    return {b'1': 1, b'2': 2, b'3': 3}.get(field)
+
+
+def read_gate(fields):
+    """The gate of a line of known kind, or None when its shape is wrong (5)."""
+    if len(fields) < 3:
+        return None
+    kind, rest = fields[0], fields[3:]
+    gate = Gate(kind, fields[1], fields[2])
+
+    if kind == b'rect':
+        if len(rest) % 3 != 0 or not 1 <= len(rest) // 3 <= 8:
+            return None
+        for at in range(0, len(rest), 3):
+            dimension, low, high = rest[at:at + 3]
+            gate.dimensions.append(dimension)
+            gate.bounds.append((dimension, low, high))
+            gate.numbers.append((low, MIN_RANGE, True))
+            gate.numbers.append((high, MAX_RANGE, True))
+
+    elif kind == b'poly':
+        if len(rest) % 2 != 0 or not 3 <= (len(rest) - 2) // 2 <= 256:
+            return None
+        gate.dimensions = rest[:2]
+        gate.vertices = rest[2:]
+        gate.numbers = [(field, POINT_RANGE, False) for field in gate.vertices]
+
+    elif kind == b'ellip':
+        if len(rest) != 8:
+            return None
+        gate.dimensions = rest[:2]
+        gate.ellipse = rest[2:]
+        limits = [POINT_RANGE, POINT_RANGE, ENTRY_RANGE, ENTRY_RANGE, ENTRY_RANGE, D2_RANGE]
+        gate.numbers = [(field, limit, False) for field, limit in zip(gate.ellipse, limits)]
+
+    elif kind == b'quad':
+        if not rest:
+            return None
+        dividers = quad_count(rest[0])
+        if dividers is None:
+            return None
+        at = 1
+        for _ in range(dividers):
+            if at + 2 > len(rest):
+                return None
+            dimension, values = rest[at], quad_count(rest[at + 1])
+            if values is None or at + 2 + values > len(rest):
+                return None
+            fields_of_values = rest[at + 2:at + 2 + values]
+            gate.dimensions.append(dimension)
+            gate.dividers.append((dimension, fields_of_values))
+            gate.numbers += [(field, DIVIDER_RANGE, False) for field in fields_of_values]
+            at += 2 + values
+        size = 1 + dividers
+        if at == len(rest) or (len(rest) - at) % size != 0:
+            return None
+        for start in range(at, len(rest), size):
+            representatives = rest[start + 1:start + size]
+            gate.quadrants.append((rest[start], representatives))
+            gate.numbers += [(field, POINT_RANGE, True) for field in representatives]
+
+    elif kind == b'not':
+        if len(rest) != 1:
+            return None
+        gate.operands = rest
+
+    else:
+        if not 2 <= len(rest) <= 63:
+            return None
+        gate.operands = rest
+
+    return gate
+
+
+# 6 to 12, each over the whole line before the next.  Each of these tells whether the
+# line is good in that one respect; it is asked only when all earlier ones have passed.
+
+def names_good(gate, head):
+    return (is_name(gate.name) and is_parent(gate.parent)
+            and all(is_name(name) for name, _ in gate.quadrants)
+            and all(is_operand(operand) for operand in gate.operands))
+
+
+def forms_good(gate, head):
+    return all(is_number(field) or (star and field == b'*')
+               for field, _, star in gate.numbers)
+
+
+def ranges_good(gate, head):
+    return all(field == b'*' or within(number_value(field), limits)
+               for field, limits, _ in gate.numbers)
+
+
+def dimensions_good(gate, head):
+    return (all(dimension in head for dimension in gate.dimensions)
+            and len(set(gate.dimensions)) == len(gate.dimensions))
+
+
+def bounds_good(gate, head):
+    for _, low, high in gate.bounds:
+        # A missing bound bounds nothing, so it crosses nothing.
+        if low != b'*' and high != b'*' and number_value(low) >= number_value(high):
+            return False
+    for _, fields in gate.dividers:
+        values = [number_value(field) for field in fields]
+        if any(later <= earlier for earlier, later in zip(values, values[1:])):
+            return False
+    return True
+
+
+def matrix_is_good(c11, c12, c22):
+    return c11 > 0 and c11 * c22 > c12 * c12
+
+
+def matrix_good(gate, head):
+    if gate.kind != b'ellip':
+        return True
+    return matrix_is_good(*[number_value(field) for field in gate.ellipse[2:5]])
+
+
+def interval_number(values, value):
+    """Which interval, from 0, a value lies in: each has its lower end, not its upper."""
+    return sum(1 for divider in values if divider <= value)
+
+
+def tiling_good(gate, head):
+    """Each combination of intervals belongs to exactly one quadrant."""
+    if gate.kind != b'quad':
+        return True
+    cuts = [[number_value(field) for field in fields] for _, fields in gate.dividers]
+    owners = {cell: 0 for cell in
+              itertools.product(*[range(len(values) + 1) for values in cuts])}
+    for _, representatives in gate.quadrants:
+        held = [range(len(values) + 1) if field == b'*'
+                else [interval_number(values, number_value(field))]
+                for values, field in zip(cuts, representatives)]
+        for cell in itertools.product(*held):
+            owners[cell] += 1
+    return all(times == 1 for times in owners.values())
+
+
+LINE_CHECKS = ((6, names_good), (7, forms_good), (8, ranges_good), (9, dimensions_good),
+               (10, bounds_good), (11, matrix_good), (12, tiling_good))
+
+
+# ---------------------------------------------------------------- the whole table
+
+# 13 to 16.  Each returns the line to be named, or None.
+
+def find_crowded(gates):
+    regions = 0
+    for gate in gates:
+        regions += len(gate.regions())
+        if regions > REGIONS:
+            return gate.line
+    return None
+
+
+def find_twin(gates):
+    used = set()
+    for gate in gates:
+        for name in [gate.name] + [name for name, _ in gate.quadrants]:
+            if name in used:
+                return gate.line
+            used.add(name)
+    return None
+
+
+def find_dead(gates):
+    alive = {name for gate in gates for name in gate.regions()}
+    for gate in gates:
+        if any(name not in alive for name in gate.references()):
+            return gate.line
+    return None
+
+
+def reach(gates):
+    """For each gate the set of gates that it reaches, as numbers in table order."""
+    owner = {name: number for number, gate in enumerate(gates) for name in gate.regions()}
+    direct = [{owner[name] for name in gate.references()} for gate in gates]
+    reached = []
+    for start in direct:
+        seen, waiting = set(), list(start)
+        while waiting:
+            number = waiting.pop()
+            if number not in seen:
+                seen.add(number)
+                waiting += direct[number]
+        reached.append(seen)
+    return reached
+
+
+def find_circle(gates):
+    """The first line whose gate reaches itself; one that only leads in isn't meant."""
+    for number, reached in enumerate(reach(gates)):
+        if number in reached:
+            return gates[number].line
+    return None
+
+
+TABLE_CHECKS = ((13, find_crowded), (14, find_twin), (15, find_dead), (16, find_circle))
+
+
+def read_head(line):
+    """The dimensions of line 1, or None when it fails (3)."""
+    fields = line.split(b'\t')
+    names = fields[1:]
+    if fields[0] != b'dims' or not 1 <= len(names) <= 8:
+        return None
+    if not all(is_name(name) for name in names) or len(set(names)) != len(names):
+        return None
+    return names
+
+
+def read_table(table):
+    """(0, 0, head, gates) when none of 1 to 16 applies, else (number, place, None, None)."""
+    if len(table) > TABLE_BYTES:
+        return 1, 0, None, None
+    if table[-1:] != b'\n':
+        return 2, 0, None, None
+    lines = table[:-1].split(b'\n')
+    head = read_head(lines[0])
+    if head is None:
+        return 3, 1, None, None
+    gates = []
+    for place, line in enumerate(lines[1:], 2):
+        fields = line.split(b'\t')
+        if fields[0] not in KINDS:
+            return 4, place, None, None
+        gate = read_gate(fields)
+        if gate is None:
+            return 5, place, None, None
+        for number, good in LINE_CHECKS:
+            if not good(gate, head):
+                return number, place, None, None
+        gate.line = place
+        gates.append(gate)
+    for number, find in TABLE_CHECKS:
+        place = find(gates)
+        if place is not None:
+            return number, place, None, None
+    return 0, 0, head, gates
+
+
+# ---------------------------------------------------------------- writing the plan
+
+def interval(values, field):
+    """The bounds of the interval that a representative stands for, `*` for all."""
+    if field == b'*':
+        return NO_MIN, NO_MAX
+    value = number_value(field)
+    low = max([divider for divider in values if divider <= value], default=NO_MIN)
+    high = min([divider for divider in values if divider > value], default=NO_MAX)
+    return low, high
+
+
+def quadrant_body(gate, representatives, head):
+    """One triple per divider, also for those not referred to."""
+    body = []
+    for (dimension, fields), representative in zip(gate.dividers, representatives):
+        low, high = interval([number_value(field) for field in fields], representative)
+        body += [head.index(dimension), low, high]
+    return body
+
+
+def region_steps(head, gates):
+    """For each region in table order: kind, parent name, body, names it waits for."""
+    numbers = {}
+    for gate in gates:
+        for name in gate.regions():
+            numbers[name] = len(numbers)
+    steps = []
+    for gate in gates:
+        waits = gate.references()
+        if gate.kind == b'quad':
+            for _, representatives in gate.quadrants:
+                steps.append((BOX, gate.parent, quadrant_body(gate, representatives, head), waits))
+            continue
+        if gate.kind == b'rect':
+            kind, body = BOX, []
+            for dimension, low, high in gate.bounds:
+                body += [head.index(dimension),
+                         NO_MIN if low == b'*' else number_value(low),
+                         NO_MAX if high == b'*' else number_value(high)]
+        elif gate.kind == b'poly':
+            kind = POLYGON
+            body = [head.index(dimension) for dimension in gate.dimensions]
+            body += [number_value(field) for field in gate.vertices]
+        elif gate.kind == b'ellip':
+            kind = ELLIPSE
+            body = [head.index(dimension) for dimension in gate.dimensions]
+            body += [number_value(field) for field in gate.ellipse]
+        else:
+            kind = {b'and': AND, b'or': OR, b'not': NOT}[gate.kind]
+            body = [2 * numbers[operand_name(operand)] + (operand[:1] == b'!')
+                    for operand in gate.operands]
+        steps.append((kind, gate.parent, body, waits))
+    return numbers, steps
+
+
+def writing_order(numbers, steps):
+    """Each time anew the lowest region not yet written whose parent and operands are."""
+    written, order = set(), []
+    while len(order) < len(steps):
+        for region, (_, _, _, waits) in enumerate(steps):
+            if region not in written and all(numbers[name] in written for name in waits):
+                break
+        written.add(region)
+        order.append(region)
+    return order
+
+
+def plan_words(head, gates):
+    numbers, steps = region_steps(head, gates)
+    words = [len(head), len(steps)]
+    for region in writing_order(numbers, steps):
+        kind, parent, body, _ = steps[region]
+        words += [kind, region, -1 if parent == b'-' else numbers[parent], len(body)]
+        words += body
+    return words
+
+
+def compile_table(table, slice_words):
+    """(number, place, words or None, region names); refusals 1 to 18 in 01's order."""
+    number, place, head, gates = read_table(table)
+    if number:
+        return number, place, None, []
+    words = plan_words(head, gates)
+    if len(words) > PLAN_WORDS:
+        return 17, 0, None, []
+    if len(words) > slice_words:
+        return 18, 0, None, []
+    return 0, 0, words, [name for gate in gates for name in gate.regions()]
+
+
+# ---------------------------------------------------------------- checking a plan
+
+MATRIX_AT = 4       # where in an ellipse's body a bad matrix is placed: c11
+
+
+def length_good(kind, length):
+    if kind == BOX:
+        return 3 <= length <= 24 and length % 3 == 0
+    if kind == POLYGON:
+        return 8 <= length <= 514 and length % 2 == 0
+    if kind == ELLIPSE:
+        return length == 8
+    if kind == NOT:
+        return length == 1
+    return 2 <= length <= 63
+
+
+def body_word_good(kind, body, at, n, earlier):
+    """Whether word `at` of a body is good, by the words before it (the matrix apart)."""
+    word = body[at]
+    if kind == BOX:
+        if at % 3 == 0:
+            return 0 <= word < n and word not in body[0:at:3]
+        if at % 3 == 1:
+            return within(word, MIN_RANGE)
+        return within(word, MAX_RANGE) and body[at - 1] < word
+    if kind in (POLYGON, ELLIPSE) and at < 2:
+        return 0 <= word < n and word not in body[:at]
+    if kind == POLYGON:
+        return within(word, POINT_RANGE)
+    if kind == ELLIPSE:
+        if at < 4:
+            return within(word, POINT_RANGE)
+        return within(word, ENTRY_RANGE if at < 7 else D2_RANGE)
+    return word >= 0 and word // 2 in earlier
+
+
+def bad_body_word(kind, body, length, n, earlier):
+    """The first bad word of a body, perhaps cut short by the plan's end; None if all good.
+
+    A body cut short has its words judged like any other; `len(body)` is the answer
+    when they are good and the next one is missing.
+    """
+    for at in range(length):
+        if at == len(body) or not body_word_good(kind, body, at, n, earlier):
+            return at
+        # c22 is the last word of the matrix; all three are there and in range now.
+        if kind == ELLIPSE and at == 6 and not matrix_is_good(*body[4:7]):
+            return MATRIX_AT
+    return None
+
+
+def bad_word(words):
+    """The place of 22: the lowest bad word, the plan's length if words run out, or None."""
+    end = len(words)
+    if end < 1 or not 1 <= words[0] <= 8:
+        return 0
+    if end < 2 or not 0 <= words[1] <= REGIONS:
+        return 1
+    n, steps = words[0], words[1]
+    earlier = set()
+    at = 2
+    for _ in range(steps):
+        # In each of these lines the place is `end` itself when the word is missing.
+        if at == end or not BOX <= words[at] <= NOT:
+            return at
+        kind = words[at]
+        at += 1
+        if at == end or not 0 <= words[at] < steps or words[at] in earlier:
+            return at
+        region = words[at]
+        at += 1
+        if at == end or (words[at] != -1 and words[at] not in earlier):
+            return at
+        at += 1
+        if at == end or not length_good(kind, words[at]):
+            return at
+        length = words[at]
+        at += 1
+        bad = bad_body_word(kind, words[at:at + length], length, n, earlier)
+        if bad is not None:
+            return at + bad
+        at += length
+        earlier.add(region)
+    return None if at == end else at
+
+
+def check_plan(words):
+    """(0, 0) for a plan of good form, else 21 or 22 with its place."""
+    if len(words) > PLAN_WORDS:
+        return 21, 0
+    place = bad_word(words)
+    return (0, 0) if place is None else (22, place)
+
+
+# ---------------------------------------------------------------- members of a shape
+
+def box_holds(body, event):
+    """Minimum included, maximum not."""
+    return all(low <= event[dimension] < high
+               for dimension, low, high in zip(body[0::3], body[1::3], body[2::3]))
+
+
+def polygon_holds(vertices, x, y):
+    """01's rule: on some edge, or the sum over the edges isn't 0."""
+    points = list(zip(vertices[0::2], vertices[1::2]))
+    total = 0
+    for (x0, y0), (x1, y1) in zip(points, points[1:] + points[:1]):
+        s = (x1 - x0) * (y - y0) - (x - x0) * (y1 - y0)
+        if s == 0 and min(x0, x1) <= x <= max(x0, x1) and min(y0, y1) <= y <= max(y0, y1):
+            return True
+        if y0 <= y < y1 and s > 0:
+            total += 1
+        if y1 <= y < y0 and s < 0:
+            total -= 1
+    return total != 0
+
+
+def ellipse_holds(mean_x, mean_y, c11, c12, c22, d2, x, y):
+    """000's rule multiplied by the determinant; the rim is inside."""
+    dx, dy = x - mean_x, y - mean_y
+    return c22 * dx * dx - 2 * c12 * dx * dy + c11 * dy * dy <= d2 * (c11 * c22 - c12 * c12)
+
+
+def is_spoilt(event):
+    return any(not LOWEST <= value <= HIGHEST for value in event)
+
+
+# ---------------------------------------------------------------- running a plan
+
+def plan_steps(words):
+    """The steps of a plan that has passed: (kind, region, parent, body)."""
+    steps, at = [], 2
+    while at < len(words):
+        kind, region, parent, length = words[at:at + 4]
+        steps.append((kind, region, parent, words[at + 4:at + 4 + length]))
+        at += 4 + length
+    return steps
+
+
+def operand_holds(word, bits):
+    """The event, which is taken, is a member of the operand; odd words stand for `!`."""
+    return (bits >> (word // 2) & 1) != word % 2
+
+
+def shape_holds(kind, body, event, bits):
+    if kind == BOX:
+        return box_holds(body, event)
+    if kind == POLYGON:
+        return polygon_holds(body[2:], event[body[0]], event[body[1]])
+    if kind == ELLIPSE:
+        return ellipse_holds(*body[2:], event[body[0]], event[body[1]])
+    if kind == AND:
+        return all(operand_holds(word, bits) for word in body)
+    if kind == OR:
+        return any(operand_holds(word, bits) for word in body)
+    return not operand_holds(body[0], bits)
+
+
+def event_bits(steps, event):
+    """Bit r for region r, for an event taken: shape and parent both."""
+    bits = 0
+    for kind, region, parent, body in steps:
+        in_parent = parent == -1 or bits >> parent & 1
+        if in_parent and shape_holds(kind, body, event, bits):
+            bits |= 1 << region
+    return bits
+
+
+def judge(words, event):
+    """(number, place, bits): 21, 22, 23 for the event's length, 24 for its first bad value."""
+    number, place = check_plan(words)
+    if number:
+        return number, place, 0
+    if len(event) != words[0]:
+        return 23, len(event), 0
+    for at, value in enumerate(event):
+        if not LOWEST <= value <= HIGHEST:
+            return 24, at, 0
+    return 0, 0, event_bits(plan_steps(words), event)
+
+
+def count(words, values):
+    """(number, place, taken, spoilt, counts); a refused count is a tally of zeros."""
+    number, place = check_plan(words)
+    if number:
+        return number, place, 0, 0, [0] * REGIONS
+    n = words[0]
+    if len(values) % n != 0:
+        return 23, len(values), 0, 0, [0] * REGIONS
+    steps = plan_steps(words)
+    taken = spoilt = 0
+    counts = [0] * REGIONS
+    for start in range(0, len(values), n):
+        event = values[start:start + n]
+        if is_spoilt(event):
+            spoilt += 1
+            continue
+        taken += 1
+        bits = event_bits(steps, event)
+        for region in range(words[1]):
+            counts[region] += bits >> region & 1
+    return 0, 0, taken, spoilt, counts
+
+
+# ---------------------------------------------------------------- members without a plan
+
+def membership(table):
+    """A function from an event to the names of the regions that it is a member of.
+
+    It follows names through the lines of an accepted table, which may point up or
+    down; no plan, no region number and no order of steps has a part in it.
+    """
+    lines = table[:-1].split(b'\n')
+    head = lines[0].split(b'\t')[1:]
+    gates = [read_gate(line.split(b'\t')) for line in lines[1:]]
+    region = {}     # name -> its gate, and for a quadrant its representatives
+    for gate in gates:
+        if gate.kind == b'quad':
+            for name, representatives in gate.quadrants:
+                region[name] = (gate, representatives)
+        else:
+            region[gate.name] = (gate, None)
+
+    def in_shape(gate, representatives, value, member):
+        if gate.kind == b'rect':
+            return all((low == b'*' or number_value(low) <= value[dimension])
+                       and (high == b'*' or value[dimension] < number_value(high))
+                       for dimension, low, high in gate.bounds)
+        if gate.kind == b'poly':
+            x, y = [value[dimension] for dimension in gate.dimensions]
+            return polygon_holds([number_value(field) for field in gate.vertices], x, y)
+        if gate.kind == b'ellip':
+            x, y = [value[dimension] for dimension in gate.dimensions]
+            return ellipse_holds(*[number_value(field) for field in gate.ellipse], x, y)
+        if gate.kind == b'quad':
+            for (dimension, fields), representative in zip(gate.dividers, representatives):
+                cuts = [number_value(field) for field in fields]
+                if (representative != b'*' and interval_number(cuts, value[dimension])
+                        != interval_number(cuts, number_value(representative))):
+                    return False
+            return True
+        holds = [member(operand_name(operand)) != (operand[:1] == b'!')
+                 for operand in gate.operands]
+        if gate.kind == b'and':
+            return all(holds)
+        if gate.kind == b'or':
+            return any(holds)
+        return not holds[0]
+
+    def names_of(event):
+        if is_spoilt(event):
+            return set()
+        value = dict(zip(head, event))
+        known = {}      # a region asked for twice is followed once
+
+        def member(name):
+            if name not in known:
+                gate, representatives = region[name]
+                known[name] = ((gate.parent == b'-' or member(gate.parent))
+                               and in_shape(gate, representatives, value, member))
+            return known[name]
+
+        return {name for name in region if member(name)}
+
+    return names_of
+
+
+def members(table, event):
+    """The names of the regions of an accepted table that an event is a member of."""
+    return membership(table)(event)
+
+
+# ---------------------------------------------------------------- the program
+
+def part_input(data):
+    """(table, list lines, line number of `events` or None, whether it has its LF).
+
+    The first line that is exactly `events` parts the input.  The list lines keep
+    their LF, so that a missing one shows.
+    """
+    lines = data.split(b'\n')
+    # The piece after the last LF is a line only when there is something in it.
+    open_line = lines.pop()
+    whole = [line + b'\n' for line in lines] + ([open_line] if open_line else [])
+    for number, line in enumerate(whole, 1):
+        if line in (b'events\n', b'events'):
+            return b''.join(whole[:number - 1]), whole[number:], number, line[-1:] == b'\n'
+    return data, [], None, True
+
+
+def event_values(line, n):
+    """The n numbers of an event line, or None when the line isn't so (23)."""
+    if line[-1:] != b'\n':
+        return None
+    fields = line[:-1].split(b'\t')
+    if len(fields) != n or not all(is_number(field) for field in fields):
+        return None
+    return [number_value(field) for field in fields]
+
+
+def refused(number, place):
+    return b'refused\t%d\t%d\n' % (number, place)
+
+
+def gatecount(data):
+    """The whole standard output for a standard input (01, "Marked and others")."""
+    if len(data) > INPUT_BYTES:
+        return refused(1, 0)
+    table, lines, events_line, closed = part_input(data)
+    number, place, words, names = compile_table(table, PLAN_WORDS)
+    if number:
+        return refused(number, place)
+    if not closed:
+        return refused(23, events_line)
+    values = []
+    for offset, line in enumerate(lines, 1):
+        event = event_values(line, words[0])
+        if event is None:
+            return refused(23, events_line + offset)
+        # A number beyond 32 bits stays what it is here and so spoils its event.
+        values += event
+    number, place, taken, spoilt, counts = count(words, values)
+    if number:
+        return refused(number, place)
+    printed = [b'%s\t%d\n' % (name, counts[region]) for region, name in enumerate(names)]
+    return b''.join(printed) + b'taken\t%d\nspoilt\t%d\n' % (taken, spoilt)

@@ -1,0 +1,1576 @@
+"""Seeded inputs for comparing the gate counter with another program.
+
+Everything hangs on a seed and a number only, so each input can be made again alone:
+
+    case(seed, number)      one standard input for `gatecount`
+    request(seed, number)   one question about a plan or a table
+    orders(rng, lines, k)   several orders of a table's gate lines
+
+Most inputs are small; a few stand at the limits of size.  Tables are built valid, with
+the role of every field known, and are then damaged on purpose where damage is wanted.
+"""
+
+import math
+import random
+
+import gates
+
+LETTERS = 'ABCDEFGHIJKLMNOPQRSTUVWXYZabcdefghijklmnopqrstuvwxyz'
+SIGNS = LETTERS + '0123456789-_'
+
+# No word is reserved: all of these are good names.
+TRICKY_NAMES = ['events', 'taken', 'spoilt', 'dims', 'refused', 'rect', 'poly', 'ellip', 'quad',
+                'and', 'or', 'not', 'in', 'less', 'A', 'z', 'A-', 'a_b', 'Z9', 'x-1-2-3_4_5_6_7',
+                'ABCDEFGHIJKLMNOP', 'ABCDEFGHIJKLMNOQ', 'dims08', 'apart', 'e1']
+
+LIMITS = (-65536, -65535, -65534, -1, 0, 1, 65534, 65535)
+
+# What stands in a field of each role that holds a number.
+RANGES = {'min': (-65536, 65535), 'max': (-65535, 65536), 'vertex': (-65536, 65535),
+          'mean': (-65536, 65535), 'representative': (-65536, 65535),
+          'divider': (-65535, 65535), 'entry': (-16777216, 16777216), 'd2': (1, 4096)}
+
+BAD_NUMBERS = [b'', b'-', b'-0', b'00', b'-01', b'01', b'+1', b' 1', b'1 ', b'1.5', b'1.0', b'1e3',
+               b'--1', b'0x1', b'x', b'1\r', b'\x00', b'1\x00', b'\xef\xbc\x91', b'!1', b'1,000',
+               b'9' * 40 + b'x', b'- 1', b'-00', b'1-', b'\xff', b'-*', b'**']
+BAD_NAMES = [b'', b'9', b'9a', b'_a', b'a b', b'a.b', b'A' * 17, b'a' * 18, b' a', b'a ', b'a\r',
+             b'a\x00', b'\xc3\xa9', b'a:single', b'*', b'!', b'!!R', b'--', b'-a', b'a!', b'\xff',
+             b'a/b']
+BAD_KINDS = [b'', b'bogus', b'Rect', b'RECT', b'rect ', b' rect', b'rect\r', b'rects', b'rec',
+             b'ellip3', b'tope', b'tree', b'apart', b'dims', b'events ', b' events', b'events\r',
+             b'Events', b'\x00', b'nor', b'!and', b'-', b'*', b'1', b'ellipse', b'quad2']
+BAD_COUNTS = [b'0', b'4', b'12', b'01', b'-1', b'*', b'x', b'', b'1 ', b'+1', b'9', b'1.', b'\r']
+BAD_MATRICES = [(4, 6, 9), (0, 0, 0), (-1, 0, 1), (1, 0, -1), (-5, 6, -9), (-5, 0, -9), (0, 0, 5),
+                (5, 0, 0), (1, 1, 1), (1, -1, 1), (0, 1, 0), (4, -6, 9), (1, 2, 3),
+                (16777216, 16777216, 16777216), (16777216, -16777216, 16777216),
+                (1, 16777216, 16777216), (-16777216, 0, -16777216), (1, 4096, 16777216)]
+GOOD_MATRICES = [(5, 6, 9), (1, 0, 1), (16777216, 0, 16777216), (16777216, 16777215, 16777216),
+                 (16777216, -16777215, 16777216), (1, 0, 16777216), (16777216, 0, 1), (1, 4095, 16777216),
+                 (1, -4095, 16777216), (2, 1, 1), (2, -1, 1), (65536, 0, 256), (40000, 0, 30625)]
+BAD_HEADS = [b'dims', b'dims\t', b'Dims\tA', b' dims\tA', b'dims \tA', b'dims08\tA', b'dims\tA\tA',
+             b'dims\tA\t', b'dims\t\tA', b'dims\t9A', b'dims\t-', b'dims\t_A', b'dims\tA\r', b'',
+             b'dims\tA B', b'dims A', b'dims\tA\tB\tC\tD\tE\tF\tG\tH\tI', b'\tA', b'A\tB',
+             b'dims\tABCDEFGHIJKLMNOPQ', b'dims\tA:single', b'rect\tX\t-\tA\t0\t1', b'dims\tA\x00',
+             b'\xef\xbb\xbfdims\tA', b'dims\tB\tA\tC\tA', b'dims\t*', b'dims\t!A', b'DIMS\tA']
+
+
+def text(value):
+    return b'%d' % value
+
+
+def clip(value, limits=(-65536, 65535)):
+    return max(limits[0], min(limits[1], value))
+
+
+# ---------------------------------------------------------------- valid tables
+
+class Line:
+    """One gate line: field texts with the role of each."""
+
+    def __init__(self, kind):
+        self.kind = kind
+        self.roles = ['kind']
+        self.fields = [kind]
+
+    def add(self, role, field):
+        self.roles.append(role)
+        self.fields.append(field)
+
+    def places(self, *roles):
+        return [at for at, role in enumerate(self.roles) if role in roles]
+
+    def bytes(self):
+        return b'\t'.join(self.fields)
+
+
+class Table:
+    """A table under construction; gates refer only to regions made before them."""
+
+    def __init__(self, rng, n=None, span=None):
+        self.rng = rng
+        self.n = n or rng.choice((1, 2, 2, 2, 2, 3, 3, 4, 5, 8))
+        # Small spans make events meet edges and rims by chance too.
+        self.span = span or rng.choice(((-5, 5), (-5, 5), (-20, 20), (0, 1000), (-65536, 65535)))
+        # Now and then half of all numbers stand at the ends of the scale.
+        self.at_limits = rng.choice((0.06, 0.06, 0.06, 0.06, 0.5))
+        self.long_names = False
+        self.names = set()
+        self.dimensions = self.dimension_names()
+        self.lines = []
+        self.regions = []
+        self.points = []        # lists of (dimension, value): places worth an event
+        self.words = 2
+        self.most = 64          # regions
+        self.parents = rng.choice((0.0, 0.3, 0.5, 0.95))
+
+    def dimension_names(self):
+        if self.rng.random() < 0.6:
+            return [b'%c' % letter for letter in b'ABCDEFGH'[:self.n]]
+        return [name.encode() for name in self.rng.sample(TRICKY_NAMES, self.n)]
+
+    def name(self):
+        rng = self.rng
+        while True:
+            style = 1.0 if self.long_names else rng.random()
+            if style < 0.7:
+                name = rng.choice(LETTERS) + str(len(self.names))
+            elif style < 0.85:
+                name = rng.choice(TRICKY_NAMES)
+            else:
+                length = 15 if self.long_names else rng.choice((0, 1, 3, 15, 15))
+                name = rng.choice(LETTERS) + ''.join(rng.choice(SIGNS) for _ in range(length))
+            name = name.encode()
+            if name not in self.names:
+                self.names.add(name)
+                return name
+
+    def value(self):
+        if self.rng.random() < self.at_limits:
+            return self.rng.choice(LIMITS)
+        return self.rng.randint(*self.span)
+
+    def parent(self):
+        if self.regions and self.rng.random() < self.parents:
+            return self.regions[-1] if self.rng.random() < 0.5 else self.rng.choice(self.regions)
+        return b'-'
+
+    def begin(self, kind):
+        line = Line(kind)
+        line.add('name', self.name())
+        line.add('parent', self.parent())
+        return line
+
+    def finish(self, line, words):
+        self.lines.append(line)
+        if line.kind != b'quad':
+            self.regions.append(line.fields[1])
+        self.words += words
+        return line
+
+    def rect(self):
+        rng = self.rng
+        line = self.begin(b'rect')
+        chosen = rng.sample(range(self.n), rng.choice((1, 1, min(2, self.n), self.n)))
+        for dimension in chosen:
+            low, high = sorted((self.value(), self.value()))
+            if rng.random() < 0.05:
+                low = -65536
+            if rng.random() < 0.05:
+                high = 65536
+            if low >= high:
+                high = low + 1
+            line.add('dimension', self.dimensions[dimension])
+            line.add('min', b'*' if rng.random() < 0.2 else text(low))
+            line.add('max', b'*' if rng.random() < 0.2 else text(high))
+            for value in (low, low - 1, high, high - 1):
+                self.points.append([(dimension, clip(value))])
+        return self.finish(line, 4 + 3 * len(chosen))
+
+    def outline(self):
+        """The vertices of a polygon, plain, self-crossing, walked twice, flat or a point."""
+        rng, value = self.rng, self.value
+        shape = rng.randrange(8)
+        if shape == 0:      # a rectangle, walked once, twice, thrice or forth and back
+            x0, x1 = sorted((value(), value()))
+            y0, y1 = sorted((value(), value()))
+            once = [(x0, y0), (x1, y0), (x1, y1), (x0, y1)]
+            back = [once[0]] + once[:0:-1]
+            return rng.choice((once, back, once * 2, back * 2, once * 3, once + back))
+        if shape == 1:      # a five-pointed star: its core is wound twice
+            x, y, r = value(), value(), rng.choice((10, 20, 30, 500))
+            ring = [(0, 10), (10, 3), (6, -8), (-6, -8), (-10, 3)]
+            return [(clip(x + ring[k][0] * r // 10), clip(y + ring[k][1] * r // 10))
+                    for k in (0, 2, 4, 1, 3)]
+        if shape == 2:      # flat: all on one line, level, upright or slanting
+            x, y = value(), value()
+            dx, dy = rng.choice(((1, 0), (0, 1), (1, 1), (2, -1), (3, 2)))
+            steps = [rng.randint(-4, 4) for _ in range(rng.randint(3, 6))]
+            return [(clip(x + dx * k), clip(y + dy * k)) for k in steps]
+        if shape == 3:      # one point again and again
+            return [(value(), value())] * rng.randint(3, 5)
+        if shape == 4:      # an eight: one half wound forth, one back
+            x, y, r = value(), value(), rng.randint(1, 6)
+            return [(clip(x + a * r), clip(y + b * r)) for a, b in ((-2, -1), (2, 1), (2, -1), (-2, 1))]
+        if shape == 5:      # with vertices repeated
+            some = [(value(), value()) for _ in range(rng.randint(2, 5))]
+            return [rng.choice(some) for _ in range(rng.randint(3, 9))]
+        return [(value(), value()) for _ in range(rng.randint(3, 9))]
+
+    def poly(self, vertices=None):
+        rng = self.rng
+        line = self.begin(b'poly')
+        first, second = rng.sample(range(self.n), 2)
+        outline = vertices or self.outline()
+        line.add('dimension', self.dimensions[first])
+        line.add('dimension', self.dimensions[second])
+        for x, y in outline:
+            line.add('vertex', text(x))
+            line.add('vertex', text(y))
+        for _ in range(4):
+            self.points.append(self.near_outline(first, second, outline))
+        return self.finish(line, 6 + 2 * len(outline))
+
+    def near_outline(self, first, second, outline):
+        """A vertex, a whole point on an edge, or a place near or amid the outline."""
+        rng = self.rng
+        at = rng.randrange(len(outline))
+        (x0, y0), (x1, y1) = outline[at - 1], outline[at]
+        style = rng.randrange(4)
+        if style == 0:
+            x, y = x0, y0
+        elif style < 3:
+            parts = math.gcd(x1 - x0, y1 - y0) or 1
+            k = rng.randint(0, parts)
+            x, y = x0 + (x1 - x0) // parts * k, y0 + (y1 - y0) // parts * k
+            if style == 2:
+                x, y = x + rng.randint(-1, 1), y + rng.randint(-1, 1)
+        else:
+            x = sum(point[0] for point in outline) // len(outline)
+            y = sum(point[1] for point in outline) // len(outline)
+        return [(first, clip(x)), (second, clip(y))]
+
+    def ellip(self):
+        rng = self.rng
+        line = self.begin(b'ellip')
+        first, second = rng.sample(range(self.n), 2)
+        mean_x, mean_y = self.value(), self.value()
+        matrix, d2, rim = self.matrix()
+        dx, dy = rng.choice(rim)
+        if max(abs(mean_x + dx), abs(mean_y + dy)) > 65535:
+            # At least one point of a wide ellipse's rim is to be on the scale.
+            mean_x, mean_y = clip(-dx // 2), clip(-dy // 2)
+        line.add('dimension', self.dimensions[first])
+        line.add('dimension', self.dimensions[second])
+        line.add('mean', text(mean_x))
+        line.add('mean', text(mean_y))
+        for entry in matrix:
+            line.add('entry', text(entry))
+        line.add('d2', text(d2))
+        for dx, dy in rim:
+            x, y = mean_x + dx, mean_y + dy
+            self.points.append([(first, clip(x)), (second, clip(y))])
+            x, y = x + rng.randint(-1, 1), y + rng.randint(-1, 1)
+            self.points.append([(first, clip(x)), (second, clip(y))])
+        self.points.append([(first, mean_x), (second, mean_y)])
+        return self.finish(line, 12)
+
+    def matrix(self):
+        """A good matrix, D2, and some whole points on the rim, less the means."""
+        rng = self.rng
+        style = rng.randrange(4)
+        if style == 0:      # axes along the dimensions: a*k and b*k are on the rim
+            a, b = rng.choice((1, 2, 5, 60, 4095, 4096)), rng.choice((1, 3, 7, 50, 4093, 4096))
+            k = rng.choice((1, 2, 16, 31, 64))
+            return (a * a, 0, b * b), k * k, [(a * k, 0), (-a * k, 0), (0, b * k), (0, -b * k)]
+        if style == 1:
+            # A circle through (p, q) seen through a whole map M: the matrix is
+            # (p2 + q2) M Mt, and k times the map of such a point is on the rim for D2 = k2.
+            if rng.random() < 0.5:
+                p, q, k = rng.randint(0, 12), rng.randint(1, 12), rng.choice((1, 1, 2))
+                m = [rng.randint(-4, 4) for _ in range(4)]
+            else:
+                # As large as the ranges allow, and with odd products: more than 53 bits.
+                p, q, k = rng.randrange(33, 41, 2), rng.randrange(32, 42, 2), rng.randrange(21, 32, 2)
+                m = [rng.choice((-1, 1)) * (rng.randrange(24, 48, 2) + odd) for odd in (1, 0, 1, 0)]
+            if m[0] * m[3] == m[1] * m[2]:
+                m = [1, rng.randint(-3, 3), 0, 1]
+            size = p * p + q * q
+            good = (size * (m[0] * m[0] + m[1] * m[1]), size * (m[0] * m[2] + m[1] * m[3]),
+                    size * (m[2] * m[2] + m[3] * m[3]))
+            rim = [(k * (m[0] * x + m[1] * y), k * (m[2] * x + m[3] * y))
+                   for x, y in ((p, q), (-q, p), (-p, -q), (q, -p))]
+            return good, k * k, rim
+        if style == 2:
+            return rng.choice(GOOD_MATRICES), rng.choice((1, 2, 9, 4095, 4096)), [(3, 2)]
+        while True:
+            c11, c22 = rng.randint(1, 400), rng.randint(1, 400)
+            c12 = rng.randint(-300, 300)
+            if c11 * c22 > c12 * c12:
+                return (c11, c12, c22), rng.randint(1, 6), [(rng.randint(-20, 20), rng.randint(-20, 20))]
+
+    def quad(self, room=None):
+        """A quadrant gate; with one quadrant that holds all if there is no room for more."""
+        rng = self.rng
+        if room is None:
+            room = self.most - len(self.regions)
+        line = self.begin(b'quad')
+        count = rng.randint(1, min(3, self.n))
+        counts = [rng.choice((1, 1, 2, 3)) for _ in range(count)]
+        layout = tiling(rng, counts)
+        if len(layout) > room:
+            layout = [[None] * count]
+        chosen = rng.sample(range(self.n), count)
+        line.add('dividers', text(count))
+        cuts = []
+        for dimension, size in zip(chosen, counts):
+            values = set()
+            while len(values) < size:
+                value = clip(self.value(), (-65535, 65535))
+                values.add(value if value not in values else rng.randint(-65535, 65535))
+            values = sorted(values)
+            cuts.append(values)
+            line.add('dimension', self.dimensions[dimension])
+            line.add('values', text(size))
+            for value in values:
+                line.add('divider', text(value))
+                self.points.append([(dimension, value)])
+                self.points.append([(dimension, value - 1)])
+        for quadrant in layout:
+            name = self.name()
+            self.regions.append(name)
+            line.add('quadrant', name)
+            for values, interval in zip(cuts, quadrant):
+                line.add('representative', b'*' if interval is None
+                         else text(representative(rng, values, interval)))
+        return self.finish(line, len(layout) * (4 + 3 * count))
+
+    def operand(self):
+        name = self.rng.choice(self.regions)
+        return b'!' + name if self.rng.random() < 0.4 else name
+
+    def combination(self, kind, size):
+        line = self.begin(kind)
+        for _ in range(size):
+            line.add('operand', self.operand())
+        return self.finish(line, 4 + size)
+
+    def gate(self):
+        """One more gate of any kind that can stand here."""
+        rng = self.rng
+        kinds = ['rect', 'quad']
+        if self.n > 1:
+            kinds += ['poly', 'poly', 'ellip', 'ellip']
+        if self.regions:
+            kinds += ['and', 'or', 'not']
+        kind = rng.choice(kinds)
+        if kind == 'rect':
+            return self.rect()
+        if kind == 'poly':
+            return self.poly()
+        if kind == 'ellip':
+            return self.ellip()
+        if kind == 'quad':
+            return self.quad()
+        if kind == 'not':
+            return self.combination(b'not', 1)
+        return self.combination(kind.encode(), rng.choice((2, 2, 2, 3, 3, 5, 8)))
+
+    def fill(self, count):
+        """Up to `count` gates, as far as regions and words allow."""
+        for _ in range(count):
+            if len(self.regions) >= self.most or self.words > 3500:
+                break
+            self.gate()
+        return self
+
+    def mix(self):
+        """Lines out of the order in which they were made: references go up and down."""
+        style = self.rng.random()
+        if style < 0.7:
+            self.rng.shuffle(self.lines)
+        elif style < 0.85:
+            self.lines.reverse()
+        return self
+
+    def head(self):
+        return b'\t'.join([b'dims'] + self.dimensions)
+
+    def bytes(self):
+        return join([self.head()] + [line.bytes() for line in self.lines])
+
+    # Events for the table.
+
+    def event(self):
+        rng = self.rng
+        values = [self.value() for _ in range(self.n)]
+        if self.points:
+            for _ in range(rng.choice((0, 1, 1, 1, 2, 3))):
+                for dimension, value in rng.choice(self.points):
+                    values[dimension] = value
+        if rng.random() < 0.06:
+            values[rng.randrange(self.n)] = rng.choice(
+                (65536, -65537, 65537, 70000, 2147483647, -2147483648))
+        return values
+
+    def events(self, count):
+        return [self.event() for _ in range(count)]
+
+
+def join(lines):
+    return b''.join(line + b'\n' for line in lines)
+
+
+def representative(rng, values, interval):
+    """A value of an interval: its lower end, its greatest value or one between."""
+    low = values[interval - 1] if interval else -65536
+    high = values[interval] - 1 if interval < len(values) else 65535
+    return rng.choice((low, high, rng.randint(low, high)))
+
+
+def tiling(rng, counts):
+    """Quadrants that tile: per divider an interval number, or None for not referred to."""
+    sizes = [count + 1 for count in counts]
+    if len(sizes) == 3 and rng.random() < 0.2:
+        return pinwheel(rng, sizes)
+    quadrants = []
+
+    def cut(quadrant, left):
+        """Either leave the rest merged, or cut along one more divider."""
+        if not left or rng.random() < 0.25:
+            quadrants.append(quadrant)
+            return
+        divider = rng.choice(left)
+        for interval in range(sizes[divider]):
+            part = list(quadrant)
+            part[divider] = interval
+            cut(part, [other for other in left if other != divider])
+
+    cut([None] * len(sizes), list(range(len(sizes))))
+    rng.shuffle(quadrants)
+    return quadrants
+
+
+def pinwheel(rng, sizes):
+    """A tiling by three dividers that no single cut parts."""
+    zero = [rng.randrange(size) for size in sizes]
+    others = [[k for k in range(size) if k != zero[d]] for d, size in enumerate(sizes)]
+    quadrants = [list(zero)]
+    quadrants += [[zero[0], j, None] for j in others[1]]
+    quadrants += [[None, zero[1], k] for k in others[2]]
+    quadrants += [[i, None, zero[2]] for i in others[0]]
+    quadrants += [[i, j, k] for i in others[0] for j in others[1] for k in others[2]]
+    rng.shuffle(quadrants)
+    return quadrants
+
+
+def small_table(rng):
+    return Table(rng).fill(rng.choice((0, 1, 1, 2, 3, 3, 4, 5, 6, 8))).mix()
+
+
+def referring_table(rng):
+    """A small table that surely has gates, references among them."""
+    table = Table(rng)
+    table.most = 40
+    table.parents = 0.6
+    table.rect()
+    table.fill(rng.randint(2, 6))
+    table.combination(rng.choice((b'and', b'or')), 2)
+    return table.mix()
+
+
+def chain_table(rng):
+    """Each gate the parent of the next, or the operand, 20 to 64 deep."""
+    table = Table(rng)
+    table.parents = 0.0
+    table.rect()
+    for _ in range(rng.choice((19, 40, 63))):
+        last = table.regions[-1]
+        if rng.random() < 0.7:
+            line = table.rect()
+            line.fields[2] = last
+        else:
+            line = table.combination(b'not', 1)
+            line.fields[3] = rng.choice((b'', b'!')) + last
+            if rng.random() < 0.3:
+                line.fields[2] = rng.choice(table.regions[:-1])
+    return table.mix()
+
+
+def full_table(rng):
+    """Exactly 64 regions."""
+    table = Table(rng, n=rng.choice((2, 3, 8)))
+    if table.n == 3 and rng.random() < 0.3:
+        line = table.begin(b'quad')
+        line.add('dividers', b'3')
+        for dimension in range(3):
+            line.add('dimension', table.dimensions[dimension])
+            line.add('values', b'3')
+            for value in (-3, 0, 3):
+                line.add('divider', text(value))
+                table.points.append([(dimension, value)])
+        for cell in range(64):
+            name = table.name()
+            table.regions.append(name)
+            line.add('quadrant', name)
+            for k in (cell // 16, cell // 4 % 4, cell % 4):
+                line.add('representative', text(representative(rng, [-3, 0, 3], k)))
+        table.finish(line, 64 * 13)
+        return table
+    while len(table.regions) < 64:
+        if table.words > 3000:
+            table.combination(b'not', 1)
+        else:
+            table.gate()
+    return table.mix()
+
+
+def wide_table(rng):
+    """A polygon of 256 vertices, combinations of 63 operands, a box of all dimensions."""
+    table = Table(rng, n=rng.choice((2, 8)))
+    table.poly([(table.value(), table.value()) for _ in range(rng.choice((255, 256)))])
+    table.rect()
+    table.combination(rng.choice((b'and', b'or')), rng.choice((62, 63)))
+    table.fill(3)
+    return table.mix()
+
+
+def plan_size_table(rng, words):
+    """A valid table, except perhaps for 17, whose plan has exactly so many words."""
+    table = Table(rng, n=2, span=(-9, 99))
+    table.parents = 0.2
+
+    def outline(size):
+        return [(table.value(), table.value()) for _ in range(size)]
+
+    while words - table.words > 600:
+        table.poly(outline(rng.randint(200, 256)))
+    while words - table.words > 63:
+        table.poly(outline(rng.randint(3, 20)))
+    # 18 to 63 words are left, and a combination can have any number of them.
+    table.combination(rng.choice((b'and', b'or')), words - table.words - 4)
+    return table.mix()
+
+
+def eight_polygons(rng, vertices):
+    """Eight polygons with so many vertices in all: 2,023 are the most a plan can hold."""
+    table = Table(rng, n=2, span=(-9, 99))
+    sizes = [256] * 7 + [vertices - 7 * 256]
+    shift = rng.randint(0, 200) if sizes[7] + 200 <= 256 else 0
+    sizes[0] -= shift
+    sizes[7] += shift
+    for size in sizes:
+        table.poly([(table.value(), table.value()) for _ in range(size)])
+    return table.mix()
+
+
+def byte_size_table(rng, size):
+    """A valid table of exactly so many bytes (many)."""
+    table = Table(rng, n=2)
+    table.long_names = True
+    table.rect()
+    table.ellip()
+    while size - len(table.bytes()) > 1200:
+        line = table.combination(rng.choice((b'and', b'or')), 63)
+        for at in line.places('operand'):
+            line.fields[at] = line.fields[at].lstrip(b'!')
+    # Each `!` is one byte more.
+    operands = [(line, at) for line in table.lines for at in line.places('operand')]
+    for line, at in rng.sample(operands, size - len(table.bytes())):
+        line.fields[at] = b'!' + line.fields[at]
+    return table.mix()
+
+
+# ---------------------------------------------------------------- damage to one line
+
+# Each damage takes a table and one of its lines and changes that line; it returns
+# whether it could.  The number is the refusal that it alone would bring about.
+
+def damage_kind(table, line):
+    line.fields[0] = table.rng.choice(BAD_KINDS)
+    if table.rng.random() < 0.3:
+        # A lone `events` would part the input instead, but none of the kinds is that.
+        line.fields = line.fields[:1]
+    return True
+
+
+def damage_shape(table, line):
+    rng = table.rng
+    style = rng.randrange(6)
+    if style == 0:
+        line.fields = line.fields[:rng.randint(1, 3)]
+        return True
+    if line.kind == b'quad' and style < 4:
+        line.fields[rng.choice(line.places('dividers', 'values'))] = rng.choice(BAD_COUNTS)
+        return True
+    if line.kind in (b'and', b'or'):
+        names = [table.operand() for _ in range(rng.choice((0, 1, 64, 65)))]
+        line.fields = line.fields[:3] + names
+        return True
+    if line.kind == b'rect' and style < 3:
+        line.fields = line.fields[:3] + line.fields[3:6] * rng.choice((0, 9, 10))
+        return True
+    if line.kind == b'poly' and style < 3:
+        vertices = rng.choice((0, 1, 2, 257, 258, 300))
+        line.fields = line.fields[:5] + [b'0'] * (2 * vertices + rng.choice((0, 0, 1)))
+        return True
+    if style == 4:
+        line.fields.append(b'')
+    elif style == 5:
+        line.fields.append(b'0')
+    else:
+        del line.fields[rng.randrange(3, len(line.fields))]
+    return True
+
+
+def damage_name(table, line):
+    rng = table.rng
+    at = rng.choice(line.places('name', 'parent', 'quadrant', 'operand'))
+    bad = list(BAD_NAMES)
+    if line.roles[at] in ('name', 'quadrant'):
+        bad += [b'-', b'!R'] * 3
+    elif line.roles[at] == 'parent':
+        bad += [b'!R'] * 3
+    else:
+        bad += [b'-', b'!-'] * 3
+    line.fields[at] = rng.choice(bad)
+    return True
+
+
+def damage_form(table, line):
+    numbers = line.places(*RANGES)
+    if not numbers:
+        return False
+    at = table.rng.choice(numbers)
+    line.fields[at] = table.rng.choice(BAD_NUMBERS)
+    if line.roles[at] not in ('min', 'max', 'representative') and table.rng.random() < 0.2:
+        line.fields[at] = b'*'
+    return True
+
+
+def damage_range(table, line):
+    numbers = line.places(*RANGES)
+    if not numbers:
+        return False
+    rng = table.rng
+    at = rng.choice(numbers)
+    low, high = RANGES[line.roles[at]]
+    line.fields[at] = rng.choice((
+        text(low - 1), text(high + 1), text(low - 1), text(high + 1), b'9' * 40, b'-' + b'9' * 40,
+        b'2147483648', b'4294967296', b'-2147483649', b'1' + b'0' * rng.randint(9, 30),
+        text(2 ** 64 + 1), text(-2 ** 63)))
+    return True
+
+
+def damage_dimension(table, line):
+    dimensions = line.places('dimension')
+    if not dimensions:
+        return False
+    rng = table.rng
+    at = rng.choice(dimensions)
+    if len(dimensions) > 1 and rng.random() < 0.5:
+        line.fields[at] = line.fields[rng.choice([other for other in dimensions if other != at])]
+    else:
+        wrong = [name for name in (b'', b'9', b'*', b'-', b'nope', b'a\r', b'A:single', b'Zz', b'!A',
+                                   b'dim s', b'\xff', b'Q' * 17) if name not in table.dimensions]
+        line.fields[at] = rng.choice(wrong)
+    return True
+
+
+def damage_bounds(table, line):
+    rng = table.rng
+    if line.kind == b'rect':
+        at = rng.choice(line.places('min'))
+        value = rng.randint(-65535, 65535) if rng.random() < 0.3 else clip(table.value(), (-65535, 65535))
+        line.fields[at + 1] = text(value)
+        line.fields[at] = text(clip(value + rng.choice((0, 0, 1, 5, 65536))))
+        return True
+    dividers = line.places('divider')
+    rising = [at for at in dividers if at + 1 in dividers]
+    if not rising:
+        return False
+    at = rng.choice(rising)
+    if rng.random() < 0.5:
+        line.fields[at + 1] = line.fields[at]
+    else:
+        line.fields[at], line.fields[at + 1] = line.fields[at + 1], line.fields[at]
+    return True
+
+
+def damage_matrix(table, line):
+    entries = line.places('entry')
+    if not entries:
+        return False
+    for at, entry in zip(entries, table.rng.choice(BAD_MATRICES)):
+        line.fields[at] = text(entry)
+    return True
+
+
+def damage_tiling(table, line):
+    if line.kind != b'quad':
+        return False
+    rng = table.rng
+    size = 1 + len(line.places('values'))
+    starts = line.places('quadrant')
+    start = rng.choice(starts)
+    style = rng.randrange(4)
+    if style == 0 and len(starts) > 1:          # a hole
+        del line.fields[start:start + size]
+        del line.roles[start:start + size]
+        return True
+    representatives = [at for at in range(start + 1, start + size) if line.fields[at] != b'*']
+    if style == 1 and representatives:          # one reaches over the others
+        line.fields[rng.choice(representatives)] = b'*'
+        return True
+    if style == 2 and representatives:          # in another interval, perhaps
+        line.fields[rng.choice(representatives)] = text(rng.choice((-65536, 65535, table.value())))
+        return True
+    # The same cells twice, under another name or even the same.
+    line.fields += [table.name() if rng.random() < 0.8 else line.fields[start]]
+    line.roles += ['quadrant']
+    line.fields += line.fields[start + 1:start + size]
+    line.roles += ['representative'] * (size - 1)
+    return True
+
+
+LINE_DAMAGES = ((4, damage_kind), (5, damage_shape), (6, damage_name), (7, damage_form),
+                (8, damage_range), (9, damage_dimension), (10, damage_bounds),
+                (11, damage_matrix), (12, damage_tiling))
+
+
+def line_for(table, number):
+    """A line, made if need be, that the damage for a refusal can work on."""
+    rng = table.rng
+    if number == 11:
+        return table.ellip()
+    if number == 12:
+        return table.quad()
+    if number == 10:
+        return table.rect() if rng.random() < 0.6 else table.quad()
+    if number in (7, 8, 9):
+        return rng.choice((table.rect, table.poly, table.ellip, table.quad))()
+    return table.gate()
+
+
+def one_fault(rng, number):
+    """A table with a bad line and its place; more bad ones may follow that don't count."""
+    table = Table(rng, n=rng.choice((2, 2, 3, 8)))
+    table.rect()
+    table.fill(rng.choice((0, 1, 2, 3)))
+    damage = dict(LINE_DAMAGES)[number]
+    while True:
+        line = line_for(table, number)
+        if damage(table, line):
+            break
+    table.mix()
+    if rng.random() < 0.3:
+        below = table.rect()
+        dict(LINE_DAMAGES)[rng.randint(4, 10)](table, below)
+    return table, table.lines.index(line) + 2
+
+
+def many_faults(rng):
+    """Several faults on one line, so that the order of the refusals shows."""
+    table = Table(rng, n=rng.choice((2, 3, 8)))
+    table.rect()
+    table.rect()
+    line = rng.choice((table.rect, table.poly, table.ellip, table.quad, table.quad, table.gate))()
+    if line.kind == b'rect' and rng.random() < 0.5:
+        # A box with a fault of its own in each triple.
+        line.fields, line.roles = line.fields[:3], line.roles[:3]
+        for _ in range(rng.randint(2, 8)):
+            line.add('dimension', rng.choice(table.dimensions + [b'nope']))
+            line.add('min', rng.choice((b'0', b'9', b'*', b'65536', b'9' * 40, b'00', b'x', b'5')))
+            line.add('max', rng.choice((b'10', b'1', b'*', b'-65536', b'9' * 40, b'-0', b'', b'7')))
+    for _ in range(rng.choice((2, 2, 3, 4))):
+        number, damage = rng.choice(LINE_DAMAGES[2:] if rng.random() < 0.85 else LINE_DAMAGES)
+        damage(table, line)
+        if number < 6:
+            break
+    return table.mix()
+
+
+def rough_damage(rng, data):
+    """Bytes or fields changed without a thought for their meaning."""
+    for _ in range(rng.choice((1, 1, 1, 2, 4))):
+        style = rng.randrange(10)
+        if style < 4 or not data:
+            at = rng.randint(0, len(data))
+            byte = rng.choice((b'\t', b'\n', b'\r', b'\x00', b' ', b'-', b'0', b'*', b'!', b'1', b'9',
+                               b'a', b'\xff', b'+', b'.', b'\r\n', b'\t\t', b'\n\n', b'_'))
+            data = data[:at] + byte + data[at + rng.choice((0, 0, 1, 1, 2)):]
+            continue
+        lines = data.split(b'\n')
+        at = rng.randrange(len(lines))
+        if style == 4:
+            del lines[at]
+        elif style == 5:
+            lines.insert(rng.randint(0, len(lines)), lines[at])
+        elif style == 6:
+            lines.insert(at, b'')
+        else:
+            fields = lines[at].split(b'\t')
+            spot = rng.randrange(len(fields))
+            if style == 7:
+                fields[spot] = rng.choice(BAD_NUMBERS + BAD_NAMES + [b'65536', b'-65537', b'9' * 40,
+                                                                     b'*', b'events', b'-', b'0'])
+            elif style == 8:
+                del fields[spot]
+            else:
+                fields.insert(spot, rng.choice(fields + [b'']))
+            lines[at] = b'\t'.join(fields)
+        data = b'\n'.join(lines)
+    return data
+
+
+# ---------------------------------------------------------------- damage to whole tables
+
+def crowded_table(rng):
+    """More than 64 regions; the 65th on a plain line or in the midst of a quad line."""
+    table = Table(rng, n=2)
+    table.parents = 0.1
+    most = 65 + rng.choice((0, 0, 0, 3, 20))
+    quads = rng.choice((0.0, 0.15))
+    while len(table.regions) < most:
+        if rng.random() < quads:
+            table.quad(64)
+        else:
+            table.rect()
+    table.mix()
+    if rng.random() < 0.4:
+        # A few quadrants more, among the last lines.
+        table.quad(6)
+        table.lines.insert(-rng.randint(1, 4), table.lines.pop())
+    if rng.random() < 0.3:
+        twin_names(table)
+    elif rng.random() < 0.3:
+        rng.choice(table.lines).fields[2] = b'nowhere'
+    regions = 0
+    for place, line in enumerate(table.lines, 2):
+        regions += len(line.places('quadrant')) if line.kind == b'quad' else 1
+        if regions > 64:
+            return table, place
+
+
+def twin_names(table):
+    """One name made twice: gates, quadrants, a quadrant and its own gate."""
+    rng = table.rng
+    made = [(line, at) for line in table.lines for at in line.places('name', 'quadrant')]
+    if len(made) < 2:
+        return False
+    (line, at), (other, spot) = rng.sample(made, 2)
+    if rng.random() < 0.4:
+        inside = [pair for pair in made if pair[0] is line and pair[1] != at]
+        if inside:
+            other, spot = rng.choice(inside)
+    line.fields[at] = other.fields[spot]
+    return True
+
+
+def twin_table(rng):
+    table = Table(rng)
+    table.most = 40
+    table.rect()
+    table.quad()
+    table.fill(rng.choice((1, 2, 4)))
+    twin_names(table)
+    if rng.random() < 0.3:
+        twin_names(table)
+    if rng.random() < 0.3:
+        dead_reference(table)
+    if rng.random() < 0.3:
+        make_circle(table)
+    return table.mix()
+
+
+def dead_reference(table):
+    """A parent or an operand that names no region: unknown, a quad gate, a dimension."""
+    rng = table.rng
+    gates_without = [line.fields[1] for line in table.lines if line.kind == b'quad']
+    names = [b'nowhere', b'Nope-16-letters_'] + gates_without * 2
+    names += [name for name in table.dimensions if name not in table.regions]
+    line = rng.choice(table.lines)
+    operands = line.places('operand')
+    if operands and rng.random() < 0.6:
+        line.fields[rng.choice(operands)] = rng.choice((b'', b'!')) + rng.choice(names)
+    else:
+        line.fields[2] = rng.choice(names)
+
+
+def dead_table(rng):
+    table = referring_table(rng)
+    if rng.random() < 0.6:
+        table.quad()
+    if rng.random() < 0.4:
+        make_circle(table)
+    dead_reference(table)
+    return table.mix()
+
+
+def make_circle(table):
+    """Lead some gates round in a ring through parents, operands and quadrants."""
+    rng = table.rng
+    ring = rng.sample(table.lines, rng.randint(1, min(4, len(table.lines))))
+    for line, following in zip(ring, ring[1:] + ring[:1]):
+        if following.kind == b'quad':
+            name = following.fields[rng.choice(following.places('quadrant'))]
+        else:
+            name = following.fields[1]
+        operands = line.places('operand')
+        if operands and rng.random() < 0.6:
+            line.fields[rng.choice(operands)] = rng.choice((b'', b'!')) + name
+        else:
+            line.fields[2] = name
+
+
+def circle_table(rng):
+    """A circle, often with lines above it that only lead into it."""
+    table = referring_table(rng)
+    if rng.random() < 0.5:
+        table.quad()
+        table.fill(2)
+    make_circle(table)
+    if rng.random() < 0.15:
+        make_circle(table)
+    table.mix()
+    for _ in range(rng.choice((0, 1, 1, 2))):
+        table.combination(rng.choice((b'not', b'and')), 1)
+        lead = table.lines.pop()
+        if lead.kind == b'and':
+            lead.add('operand', table.operand())
+        table.lines.insert(0, lead)
+    return table
+
+
+# ---------------------------------------------------------------- event lists
+
+def event_lines(events):
+    return [b'\t'.join(text(value) for value in event) for event in events]
+
+
+BAD_EVENTS = BAD_NUMBERS + [b'events', b'*', b'taken', b'1' * 40 + b'\r', b'-9' + b'9' * 30 + b'-']
+FAR_NUMBERS = [b'4294967296', b'2147483648', b'-2147483649', b'-2147483648', b'2147483647',
+               b'9' * 40, b'-' + b'9' * 40, b'65536', b'-65537', b'18446744073709551616',
+               b'4294967295', b'-4294967296', b'340282366920938463463374607431768211456',
+               b'1' + b'0' * 300]
+
+
+def far_list(table):
+    """An event list with numbers beyond 32 bits and other spoilt values."""
+    rng = table.rng
+    lines = []
+    for event in table.events(rng.randint(1, 8)):
+        fields = [text(value) for value in event]
+        for _ in range(rng.choice((0, 1, 1, 2))):
+            fields[rng.randrange(len(fields))] = rng.choice(FAR_NUMBERS)
+        lines.append(b'\t'.join(fields))
+    return join(lines)
+
+
+def bad_list(table):
+    """An event list with one or two faults."""
+    rng = table.rng
+    lines = event_lines(table.events(rng.randint(1, 6)))
+    last = b'\n'
+    for _ in range(rng.choice((1, 1, 1, 2))):
+        at = rng.randrange(len(lines))
+        fields = lines[at].split(b'\t')
+        style = rng.randrange(9)
+        if style == 0:
+            del fields[rng.randrange(len(fields))]
+        elif style == 1:
+            fields.insert(rng.randint(0, len(fields)), rng.choice((b'0', b'7', b'9' * 40, b'')))
+        elif style < 5:
+            fields[rng.randrange(len(fields))] = rng.choice(BAD_EVENTS)
+        elif style == 5:
+            lines.insert(rng.randint(0, len(lines)), rng.choice((b'', b'', b'events', b'\t')))
+            continue
+        elif style == 6:
+            last = b''
+            continue
+        elif style == 7:
+            fields[-1] += rng.choice((b'\r', b' ', b'\t', b'\x00'))
+        else:
+            fields[rng.randrange(len(fields))] = rng.choice(FAR_NUMBERS) + rng.choice((b'', b'x', b'.', b' '))
+        lines[at] = b'\t'.join(fields)
+    return b'\n'.join(lines) + last
+
+
+# ---------------------------------------------------------------- standard inputs
+
+class Case:
+    """One standard input.
+
+    `refusals` are the numbers of which it was made to bring about one (0 for accepted)
+    and `place` its place, where they are known beforehand; the self-test holds the
+    reference to them.
+
+    `lines` is set for accepted tables whose gate lines are to be put in other orders:
+    head and gate lines, to be followed by `list`.
+    """
+
+    def __init__(self, label, data, refusals=None, lines=None, list_=b'', place=None):
+        self.label = label
+        self.data = data
+        self.refusals = refusals
+        self.place = place
+        self.lines = lines
+        self.list = list_
+
+
+def with_events(table, count):
+    return b'events\n' + join(event_lines(table.events(count)))
+
+
+def accepted(label, table, count, orders=False):
+    list_ = with_events(table, count)
+    lines = [table.head()] + [line.bytes() for line in table.lines] if orders else None
+    return Case(label, table.bytes() + list_, (0,), lines, list_)
+
+
+def case_small(rng):
+    return accepted('small', small_table(rng), rng.choice((0, 1, 4, 8, 12, 20)), orders=rng.random() < 0.2)
+
+
+def case_referring(rng):
+    return accepted('references', referring_table(rng), rng.choice((6, 10, 20)), orders=rng.random() < 0.25)
+
+
+def case_outlines(rng):
+    """Polygons and ellipses with many events upon and beside their outlines."""
+    table = Table(rng, n=rng.choice((2, 2, 3)), span=rng.choice(((-5, 5), (-9, 9), (-20, 20), (-65536, 65535))))
+    for _ in range(rng.randint(1, 3)):
+        table.poly() if rng.random() < 0.6 else table.ellip()
+    return accepted('outlines', table, 25)
+
+
+def case_quadrants(rng):
+    table = Table(rng, n=rng.choice((1, 2, 3, 4)))
+    table.quad()
+    table.fill(rng.choice((0, 2)))
+    return accepted('quadrants', table, rng.choice((8, 16)), orders=rng.random() < 0.3)
+
+
+def case_chain(rng):
+    return accepted('chain', chain_table(rng), 6, orders=rng.random() < 0.2)
+
+
+def case_full(rng):
+    return accepted('64 regions', full_table(rng), 6, orders=rng.random() < 0.2)
+
+
+def case_wide(rng):
+    return accepted('wide', wide_table(rng), 4)
+
+
+def case_far(rng):
+    table = small_table(rng)
+    return Case('far numbers', table.bytes() + b'events\n' + far_list(table), (0,))
+
+
+def case_bad_list(rng):
+    table = small_table(rng)
+    return Case('bad list', table.bytes() + b'events\n' + bad_list(table))
+
+
+def case_list_forms(rng, style=None):
+    """The line `events` itself: missing, open, twice, changed, alone."""
+    table = small_table(rng)
+    data = table.bytes()
+    style = rng.randrange(11) if style is None else style
+    if style == 0:
+        return Case('no events line', data, (0,))
+    if style == 1:
+        return Case('no events line', data[:-1], (2,))
+    if style == 2:
+        return Case('events open', data + b'events', (23,))
+    if style == 3:
+        return Case('events twice', data + with_events(table, 2) + b'events\n', (23,))
+    if style == 4:
+        return Case('events changed', data + rng.choice((b'events\r\n', b'events\t\n', b' events\n',
+                                                         b'Events\n', b'events \n', b'events\x00\n'))
+                    + join(event_lines(table.events(2))), (4,))
+    if style == 5:
+        return Case('events alone', rng.choice((b'events', b'events\n', b'events\n1\n', b'events\n\n')), (2,))
+    if style == 6:
+        return Case('no events', data + b'events\n', (0,))
+    if style == 7:
+        return Case('list open', (data + with_events(table, 3))[:-1], (23,))
+    if style == 8:
+        return Case('empty line', data + with_events(table, rng.choice((0, 3))) + b'\n', (23,))
+    if style == 9:
+        return Case('tiny input', rng.choice((b'', b'\n', b'\n\n', b'x', b'\t', b'dims\tA', b'dims\tA\n',
+                                              b'dims\tA\n\n', b'dims\tA\nevents', b'dims\tA\nevents\n\n',
+                                              b'dims\tA\nevents\n1', b'dims\tA\nevents\nevents\n',
+                                              b'\x00', b'dims\tA\r\n', b'dims\tA\n \n', b'dims\tevents\n'
+                                              b'events\n5\n', b'dims\n', b'events\nevents')))
+    return Case('table and list bad', rough_damage(rng, data) + b'events\n' + bad_list(table))
+
+
+def case_head(rng):
+    """Line 1 fails; what follows may be good or bad and isn't looked at."""
+    table = Table(rng, n=1).fill(rng.choice((0, 1)))
+    lines = [rng.choice(BAD_HEADS)] + [line.bytes() for line in table.lines]
+    if rng.random() < 0.3:
+        lines.append(rng.choice((b'bogus', b'', b'rect', b'rect\tX\tnowhere\tA\t0\t1')))
+    return Case('head', join(lines) + with_events(table, 1), (3,), place=1)
+
+
+def case_open_table(rng):
+    table = small_table(rng)
+    data = rng.choice((table.bytes()[:-1], b'', table.bytes() + b'rect', table.bytes() + b'\r'))
+    return Case('open line', data, (2,))
+
+
+def case_one_fault(rng, number=None):
+    number = number or rng.randint(4, 12)
+    table, place = one_fault(rng, number)
+    data = table.bytes() + with_events(table, 2)
+    if number == 12:
+        # A representative put elsewhere may happen to stay in its interval.
+        return Case('fault 12', data)
+    return Case('fault %d' % number, data, (number,), place=place)
+
+
+def case_many_faults(rng):
+    table = many_faults(rng)
+    return Case('many faults', table.bytes() + with_events(table, 2))
+
+
+def case_rough_table(rng):
+    table = small_table(rng)
+    return Case('rough table', rough_damage(rng, table.bytes()) + with_events(table, 3))
+
+
+def case_rough_input(rng):
+    table = small_table(rng)
+    return Case('rough input', rough_damage(rng, table.bytes() + with_events(table, 3)))
+
+
+def case_crowded(rng):
+    table, place = crowded_table(rng)
+    return Case('crowded', table.bytes() + with_events(table, 2), (13,), place=place)
+
+
+def case_crowded_then_bad(rng):
+    """Too many regions, and below them a bad line, which is told of first."""
+    table, _ = crowded_table(rng)
+    data = table.bytes() + b'bogus\n'
+    return Case('crowded, then bad', data + with_events(table, 2), (4,), place=len(table.lines) + 2)
+
+
+def case_twin(rng):
+    table = twin_table(rng)
+    return Case('twin', table.bytes() + with_events(table, 2), (14,))
+
+
+def case_dead(rng):
+    table = dead_table(rng)
+    return Case('dead', table.bytes() + with_events(table, 2), (15,))
+
+
+def case_circle(rng):
+    table = circle_table(rng)
+    return Case('circle', table.bytes() + with_events(table, 2), (16,))
+
+
+def case_polygons(rng, vertices=None):
+    vertices = vertices or rng.choice((2022, 2023, 2024))
+    table = eight_polygons(rng, vertices)
+    return Case('eight polygons', table.bytes() + with_events(table, 2), (17 if vertices > 2023 else 0,))
+
+
+def case_plan_size(rng, words=None):
+    words = words or rng.randint(4090, 4100)
+    table = plan_size_table(rng, words)
+    return Case('plan of about 4,096', table.bytes() + with_events(table, 2), (17 if words > 4096 else 0,))
+
+
+def case_table_size(rng, size=None):
+    size = size or rng.choice((32767, 32768, 32769))
+    table = byte_size_table(rng, size)
+    list_ = with_events(table, 2) if rng.random() < 0.7 else b''
+    return Case('table of %d bytes' % size, table.bytes() + list_, (0,) if size <= 32768 else (1,))
+
+
+def case_long_number(rng, size=None):
+    """One number with very many digits: off scale, unless the table is too long."""
+    size = size or rng.choice((32768, 32769, rng.randint(100, 32767)))
+    table = Table(rng).fill(1)
+    line = b'rect\t' + table.name() + b'\t-\t' + table.dimensions[0] + b'\t'
+    digits = max(20, size - len(table.bytes()) - len(line) - 3)
+    data = table.bytes() + line + b'9' * digits + b'\t*\n'
+    return Case('long number', data + b'events\n', (1,) if len(data) > 32768 else (8,))
+
+
+def case_input_size(rng, size=None):
+    """Inputs of 65,536 bytes and one more, with a good list or one that is left open."""
+    size = size or rng.choice((65535, 65536, 65537))
+    table = small_table(rng)
+    data = table.bytes() + with_events(table, 3)
+    rest = b''.join(b'\t0' for _ in range(table.n - 1)) + b'\n'
+    while size - len(data) > 9000:
+        data += b'8' * rng.randint(2000, 8000) + rest
+    data += b'7' * (size - len(data) - len(rest)) + rest
+    if rng.random() < 0.2:
+        data = data[:-1] + b'7'
+        return Case('input of %d bytes' % size, data, (1,) if size > 65536 else (23,))
+    return Case('input of %d bytes' % size, data, (1,) if size > 65536 else (0,))
+
+
+def case_long_table_part(rng):
+    """A table part over its own limit while the whole input keeps to its own."""
+    table = small_table(rng)
+    data = table.bytes()
+    size = rng.choice((32769, 40000, 65536))
+    if rng.random() < 0.5:
+        return Case('long table, no list', data + b'x' * (size - len(data)), (1,))
+    data += b'x' * (min(size, 60000) - len(data) - 1) + b'\n'
+    return Case('long table and a list', data + with_events(table, 2), (1,))
+
+
+FAMILIES = ((140, case_small), (90, case_referring), (110, case_outlines), (60, case_quadrants),
+            (14, case_chain), (10, case_full), (6, case_wide), (50, case_far), (70, case_bad_list),
+            (50, case_list_forms), (25, case_head), (8, case_open_table), (130, case_one_fault),
+            (50, case_many_faults), (55, case_rough_table), (30, case_rough_input),
+            (10, case_crowded), (3, case_crowded_then_bad), (30, case_twin), (30, case_dead), (40, case_circle),
+            (7, case_plan_size), (3, case_polygons), (4, case_table_size), (4, case_long_number),
+            (5, case_input_size), (3, case_long_table_part))
+
+# The limits of size and one of each refusal stand at the beginning of every run, so that
+# none is left to chance.
+FIRST = ([lambda rng, size=size: case_table_size(rng, size) for size in (32767, 32768, 32769)]
+         + [lambda rng, size=size: case_long_number(rng, size) for size in (32768, 32769)]
+         + [lambda rng, size=size: case_input_size(rng, size) for size in (65535, 65536, 65537)]
+         + [lambda rng, words=words: case_plan_size(rng, words) for words in range(4090, 4101)]
+         + [lambda rng, vertices=vertices: case_polygons(rng, vertices) for vertices in (2022, 2023, 2024)]
+         + [lambda rng, number=number: case_one_fault(rng, number) for number in range(4, 13)]
+         + [lambda rng, style=style: case_list_forms(rng, style) for style in range(10)]
+         + [case_crowded, case_crowded_then_bad, case_full, case_twin, case_dead, case_circle,
+            case_open_table, case_head, case_long_table_part])
+_WEIGHTS = [weight for weight, _ in FAMILIES]
+_MAKERS = [maker for _, maker in FAMILIES]
+
+
+def case(seed, number):
+    """The standard input with this number of the run with this seed."""
+    rng = random.Random('%s input %d' % (seed, number))
+    if number < len(FIRST):
+        return FIRST[number](rng)
+    return rng.choices(_MAKERS, _WEIGHTS)[0](rng)
+
+
+def orders(rng, lines, k):
+    """Up to k other orders of the gate lines below line 1, as tables."""
+    head, gate_lines = lines[0], lines[1:]
+    tables = []
+    for turn in range(k):
+        mixed = list(gate_lines)
+        if turn == 0:
+            mixed.reverse()
+        else:
+            rng.shuffle(mixed)
+        if mixed != gate_lines:
+            tables.append(join([head] + mixed))
+    return tables
+
+
+# ---------------------------------------------------------------- plans
+
+class Plan:
+    """Words of a valid plan with the role of each, so that each role can be damaged."""
+
+    def __init__(self, rng, steps=None):
+        self.rng = rng
+        self.words, self.roles = [], []
+        self.n = rng.choice((1, 2, 2, 3, 4, 8))
+        steps = rng.choice((0, 1, 1, 2, 3, 3, 4, 6, 10)) if steps is None else steps
+        # Any order of regions is good aboard.
+        order = list(range(steps))
+        rng.shuffle(order)
+        self.points = []
+        self.add('n', self.n)
+        self.add('steps', steps)
+        self.starts = []
+        earlier = []
+        for region in order:
+            self.starts.append(len(self.words))
+            self.step(region, earlier)
+            earlier.append(region)
+
+    def add(self, role, word):
+        self.roles.append(role)
+        self.words.append(word)
+
+    def value(self):
+        rng = self.rng
+        if rng.random() < 0.2:
+            return rng.choice(LIMITS)
+        return rng.randint(-9, 9)
+
+    def step(self, region, earlier):
+        rng = self.rng
+        kinds = [1, 1]
+        if self.n > 1:
+            kinds += [2, 3, 3]
+        if earlier:
+            kinds += [4, 5, 6]
+        kind = rng.choice(kinds)
+        self.add('kind', kind)
+        self.add('region', region)
+        self.add('parent', rng.choice(earlier) if earlier and rng.random() < 0.5 else -1)
+        if kind == 1:
+            chosen = rng.sample(range(self.n), rng.randint(1, self.n))
+            self.add('length', 3 * len(chosen))
+            for dimension in chosen:
+                low, high = sorted((self.value(), self.value()))
+                low, high = rng.choice(((low, high + 1), (low, high + 1), (low, high + 1), (-65536, 65536),
+                                        (-65536, -65535), (65535, 65536)))
+                self.add('dimension', dimension)
+                self.add('min', low)
+                self.add('max', high)
+                self.points += [[(dimension, clip(low))], [(dimension, clip(high))], [(dimension, high - 1)]]
+        elif kind == 2:
+            first, second = rng.sample(range(self.n), 2)
+            outline = [(self.value(), self.value()) for _ in range(rng.choice((3, 3, 4, 5, 9)))]
+            if rng.random() < 0.3:
+                outline *= 2
+                self.points += [[(first, sum(x for x, _ in outline) // len(outline)),
+                                 (second, sum(y for _, y in outline) // len(outline))]] * 4
+            self.add('length', 2 + 2 * len(outline))
+            self.add('dimension', first)
+            self.add('dimension', second)
+            for x, y in outline:
+                self.add('vertex', x)
+                self.add('vertex', y)
+                self.points.append([(first, x), (second, y)])
+        elif kind == 3:
+            first, second = rng.sample(range(self.n), 2)
+            self.add('length', 8)
+            self.add('dimension', first)
+            self.add('dimension', second)
+            mean_x, mean_y = self.value(), self.value()
+            self.add('mean', mean_x)
+            self.add('mean', mean_y)
+            if rng.random() < 0.5:
+                a, b, k = rng.randint(1, 4), rng.randint(1, 4), rng.randint(1, 3)
+                matrix, d2 = (a * a, 0, b * b), k * k
+                self.points += [[(first, clip(mean_x + a * k)), (second, mean_y)],
+                                [(first, mean_x), (second, clip(mean_y - b * k))]]
+            else:
+                matrix, d2 = rng.choice(GOOD_MATRICES), rng.choice((1, 2, 4095, 4096))
+            for role, entry in zip(('c11', 'c12', 'c22'), matrix):
+                self.add(role, entry)
+            self.add('d2', d2)
+        else:
+            size = 1 if kind == 6 else rng.choice((2, 2, 3, 5, 63 if rng.random() < 0.1 else 4))
+            self.add('length', size)
+            for _ in range(size):
+                self.add('operand', 2 * rng.choice(earlier) + rng.randrange(2))
+
+    def event(self):
+        values = [self.value() for _ in range(self.n)]
+        if self.points and self.rng.random() < 0.7:
+            for dimension, value in self.rng.choice(self.points):
+                values[dimension] = value
+        return values
+
+
+ODD_WORDS = (-2147483648, 2147483647, -65537, -65536, -65535, -2, -1, 0, 1, 2, 3, 4, 5, 6, 7, 8, 9, 12,
+             13, 24, 25, 27, 63, 64, 65, 128, 514, 516, 4096, 4097, 65535, 65536, 65537, 16777216,
+             16777217, -16777216, -16777217, 131072)
+
+ROLES = ('n', 'steps', 'kind', 'region', 'parent', 'length', 'dimension', 'min', 'max', 'vertex',
+         'mean', 'c11', 'c12', 'c22', 'd2', 'operand')
+
+
+def odd_word(rng, plan, words, at):
+    """Something else for the word at a place, often what its role forbids."""
+    role, style = plan.roles[at], rng.random()
+    start = max([start for start in plan.starts if start <= at], default=0)
+    if style < 0.5:
+        if role == 'region':        # set earlier, perhaps
+            return words[rng.choice(plan.starts) + 1] if plan.starts[-1] + 1 < len(words) else 0
+        if role == 'parent':        # its own region, or one set later perhaps
+            return rng.choice((plan.words[start + 1], rng.randrange(plan.words[1] + 1), -2))
+        if role == 'operand':
+            return rng.choice((2 * plan.words[start + 1], 2 * plan.words[start + 1] + 1, -1, -2,
+                               2 * plan.words[1], rng.randrange(2 * plan.words[1])))
+        if role == 'dimension':
+            return rng.choice((plan.words[start + 4], plan.words[start + 4], plan.n, plan.n - 1, -1))
+        if role == 'max':
+            return rng.choice((words[at - 1], words[at - 1] - 1, -65536, 65537))
+        if role == 'length':
+            return words[at] + rng.choice((-3, -2, -1, -1, 1, 1, 2, 3))
+    if style < 0.8:
+        return rng.choice(ODD_WORDS)
+    return words[at] + rng.choice((-1, 1))
+
+
+def broken_rules(plan):
+    """For each rule of form that hangs on other words: (place, word) pairs that break it."""
+    rules = {}
+
+    def breaks(rule, at, word):
+        rules.setdefault(rule, []).append((at, word))
+
+    words, regions = plan.words, [plan.words[start + 1] for start in plan.starts]
+    for turn, start in enumerate(plan.starts):
+        kind, region, body, end = words[start], words[start + 1], start + 4, start + 4 + words[start + 3]
+        for other in regions[:turn]:
+            breaks('region set earlier', start + 1, other)
+        breaks('region not below the steps', start + 1, words[1])
+        for other in regions[turn:]:
+            breaks('parent not set yet', start + 2, other)
+        if kind == 1:
+            for at in range(body + 3, end, 3):
+                breaks('dimension twice in a box', at, words[body])
+            for at in range(body, end, 3):
+                breaks('dimension n', at, plan.n)
+                if words[at + 1] >= -65535:
+                    breaks('max is min', at + 2, words[at + 1])
+        elif kind in (2, 3):
+            breaks('dimension twice in an outline', body + 1, words[body])
+            breaks('dimension n', body + kind % 2, plan.n)
+        else:
+            for at in range(body, end):
+                for other in regions[turn:]:
+                    breaks('operand not set yet', at, 2 * other + at % 2)
+                breaks('operand out of the steps', at, 2 * words[1])
+                breaks('operand below 0', at, -1 - at % 2)
+    return rules
+
+
+def damage_plan(rng, plan):
+    """Words of a plan with one to three faults of any sort."""
+    words = list(plan.words)
+    ellipses = [at for at, role in enumerate(plan.roles) if role == 'c11']
+    for _ in range(rng.choice((1, 1, 1, 2, 3))):
+        style = rng.randrange(17)
+        if style < 4:       # a word of some role, each role as likely as the others
+            here = sorted(set(plan.roles))
+            role = rng.choice(here)
+            at = rng.choice([at for at, other in enumerate(plan.roles) if other == role])
+            if at < len(words):
+                words[at] = odd_word(rng, plan, words, at)
+        elif style in (4, 10) and ellipses:     # the matrix: bad, off range, or cut off after it or in it
+            at = rng.choice(ellipses)
+            if at + 4 <= len(words):
+                words[at:at + 3] = rng.choice(BAD_MATRICES)
+                more = rng.randrange(4)
+                if more == 0:
+                    words[at + rng.randrange(3)] = rng.choice((16777217, -16777217, 2147483647, -2147483648))
+                elif more == 1:
+                    words[at + 3] = rng.choice((0, 4097, -1))
+                elif more == 2:
+                    words = words[:at + rng.randint(0, 4)]
+        elif style < 7:     # cut off anywhere
+            words = words[:rng.randint(0, len(words))]
+        elif style == 7:    # words left over
+            words += [rng.choice(ODD_WORDS) for _ in range(rng.choice((1, 1, 2, 9)))]
+        elif style == 8 and words:
+            at = rng.randrange(len(words))
+            if rng.random() < 0.5:
+                del words[at]
+            else:
+                words.insert(at, rng.choice(ODD_WORDS))
+        elif style == 9 and len(words) > 1:
+            words[1] += rng.choice((-1, 1))
+        elif style > 13 and plan.starts:    # a rule broken that hangs on other words
+            rules = broken_rules(plan)
+            at, word = rng.choice(rules[rng.choice(sorted(rules))])
+            if at < len(words):
+                words[at] = word
+        elif style > 11 and plan.starts:    # a length that its kind forbids, and a body to match
+            start = rng.choice(plan.starts)
+            length = plan.words[start + 3]
+            other = max(0, length + rng.choice((-3, -2, -1, -1, 1, 1, 2, 3)))
+            body = words[start + 4:start + 4 + length]
+            if len(body) == length:
+                more = [rng.randrange(3) for _ in range(3)]
+                words[start + 3:start + 4 + length] = [other] + (body + more)[:other]
+                break       # the places of the words behind have shifted
+        elif plan.starts:   # a bad word in a body, and the plan ends within that body
+            start = rng.choice(plan.starts)
+            length = plan.words[start + 3]
+            at = start + 4 + rng.randrange(length)
+            if at < len(words):
+                words[at] = odd_word(rng, plan, words, at)
+                words = words[:rng.randint(at, start + 4 + length)]
+    return words
+
+
+def long_words(rng):
+    """Lists of about 4,096 words: a good plan of just that size, with words over, or noise."""
+    style = rng.randrange(4)
+    if style == 0:
+        table = plan_size_table(rng, rng.randint(4090, 4096))
+        return gates.compile_table(table.bytes(), 4096)[2]
+    if style == 1:
+        words = gates.compile_table(plan_size_table(rng, 4096).bytes(), 4096)[2]
+        return words + [rng.choice(ODD_WORDS)]
+    if style == 2:
+        return Plan(rng).words + [0] * 4096
+    words = Plan(rng, 2).words
+    return (words + [7] * 4096)[:rng.choice((4096, 4097))]
+
+
+# ---------------------------------------------------------------- questions
+
+def event_for(rng, plan):
+    """One event: good, spoilt, or not n long."""
+    event = plan.event()
+    style = rng.random()
+    if style < 0.12:
+        for _ in range(rng.choice((1, 2))):
+            event[rng.randrange(len(event))] = rng.choice((65536, -65537, 2147483647, -2147483648))
+    elif style < 0.2:
+        event = rng.choice((event[:-1], event + [0], [], event * 2, event + [70000]))
+    return event
+
+
+def request(seed, number):
+    """The question with this number: a label and what is asked.
+
+    ('check', words), ('judge', words, event), ('count', words, values) or
+    ('compile', words of the slice, table).
+    """
+    rng = random.Random('%s question %d' % (seed, number))
+    style = rng.random()
+    if style < 0.004:
+        words = long_words(rng)
+        if rng.random() < 0.5:
+            return 'long words', ('check', words)
+        return 'long words', ('judge', words, [0, 0])
+    if style < 0.30:
+        return 'damaged plan', ('check', damage_plan(rng, Plan(rng)))
+    if style < 0.36:
+        return 'good plan', ('check', Plan(rng).words)
+    if style < 0.54:
+        plan = Plan(rng)
+        return 'judged', ('judge', plan.words, event_for(rng, plan))
+    if style < 0.58:
+        plan = Plan(rng)
+        return 'damaged, judged', ('judge', damage_plan(rng, plan), event_for(rng, plan))
+    if style < 0.64:
+        plan = Plan(rng)
+        values = []
+        for _ in range(rng.choice((0, 1, 3, 8))):
+            values += event_for(rng, plan) if rng.random() < 0.2 else plan.event()
+        if rng.random() < 0.1:
+            values = values[1:] + rng.choice(([], [0, 0]))
+        words = plan.words if rng.random() < 0.85 else damage_plan(rng, plan)
+        return 'counted', ('count', words, values)
+    if style < 0.66:
+        table = small_table(rng)
+        words = gates.compile_table(table.bytes(), 4096)[2]
+        return 'compiled, judged', ('judge', words, table.event())
+    if style < 0.68:
+        table = small_table(rng)
+        words = gates.compile_table(table.bytes(), 4096)[2]
+        if rng.random() < 0.5:
+            words[rng.randrange(len(words))] = rng.choice(ODD_WORDS)
+        else:
+            words = words[:rng.randint(0, len(words))]
+        return 'compiled, damaged', ('check', words)
+    if style < 0.90:
+        table = rng.choice((small_table, small_table, referring_table, referring_table, referring_table,
+                            chain_table if rng.random() < 0.2 else small_table,
+                            full_table if rng.random() < 0.2 else referring_table))(rng)
+        size = 4096
+        if rng.random() < 0.25:
+            size = clip(table.words + rng.choice((-1, 0, 1, -2, -table.words, 5000)), (0, 9000))
+        return 'compile', ('compile', size, table.bytes())
+    if style < 0.9008:
+        table = byte_size_table(rng, rng.choice((32768, 32769)))
+        return 'compile long', ('compile', 4096, table.bytes())
+    if style < 0.903:
+        table = plan_size_table(rng, rng.randint(4090, 4100))
+        return 'compile long', ('compile', rng.choice((4096, 4095, 4094, 4100, 5000)), table.bytes())
+    maker = rng.choice((lambda rng: one_fault(rng, rng.randint(4, 12))[0], many_faults, twin_table, dead_table,
+                        circle_table))
+    data = maker(rng).bytes()
+    if rng.random() < 0.2:
+        data = rough_damage(rng, data)
+    if rng.random() < 0.01:
+        data = rng.choice((b'', b'\n', data[:-1]))
+    return 'compile damaged', ('compile', rng.choice((4096, 4096, 0, 10)), data)

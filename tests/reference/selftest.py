@@ -1,0 +1,803 @@
+#!/usr/bin/env python3
+"""Holds the reference to paper 01's own examples and to itself.
+
+    tests/reference/selftest.py [--seed S] [--tables N]
+
+First come the examples that 01 prints and small cases at each of its rules; then, for
+random tables, the plan against the lines, other orders of lines, sums of quadrants, and
+other ways of reckoning the same thing.  The last line is "N passed, M failed".
+"""
+
+import argparse
+import os
+import random
+import sys
+from fractions import Fraction
+
+sys.path.insert(0, os.path.dirname(os.path.abspath(__file__)))
+
+import gates
+import generate
+
+passed = failed = 0
+
+
+def check(label, got, wanted):
+    global passed, failed
+    if got == wanted:
+        passed += 1
+    else:
+        failed += 1
+        print('FAILED %s\n  got    %.300r\n  wanted %.300r' % (label, got, wanted))
+
+
+def tabs(*lines):
+    """Lines with spaces for tabs, as the paper prints them; bytes are left as they are."""
+    return b''.join((line if isinstance(line, bytes) else line.replace(' ', '\t').encode()) + b'\n'
+                    for line in lines)
+
+
+def refused(label, table, number, place, slice_words=4096):
+    check(label, gates.compile_table(table, slice_words)[:3], (number, place, None))
+
+
+def accepted(label, table, words=None):
+    number, place, got, _ = gates.compile_table(table, 4096)
+    check(label, (number, place), (0, 0))
+    if words is not None:
+        check(label + ': words', got, words)
+
+
+def prints(label, data, *lines):
+    check(label, gates.gatecount(data), tabs(*lines))
+
+
+def line_fault(label, line, number, head='dims A B', before=()):
+    """A line below the head and some good ones is refused with its own place."""
+    refused(label, tabs(head, *before, line), number, 2 + len(before))
+
+
+def member(table, event, name):
+    """Membership by the lines and by the plan, which must agree; None if they don't."""
+    number, place, words, names = gates.compile_table(table, 4096)
+    by_plan = gates.judge(words, event)
+    by_lines = gates.members(table, event)
+    if by_plan[:2] != (0, 0) or {names[r] for r in range(len(names)) if by_plan[2] >> r & 1} != by_lines:
+        return None
+    return name.encode() in by_lines
+
+
+FORTY = '9' * 40
+
+EXAMPLE = ('dims FSC SSC',
+           'rect Live Ring FSC 300 600',
+           'ellip Ring - FSC SSC 400 200 40000 0 30625 1',
+           'quad Q Ring 1 FSC 1 400 Lo 0 Hi 500',
+           'and Both - Live !Hi')
+EXAMPLE_PLAN = [2, 5, 3, 1, -1, 8, 0, 1, 400, 200, 40000, 0, 30625, 1, 1, 0, 1, 3, 0, 300, 600,
+                1, 2, 1, 3, 0, -65536, 400, 1, 3, 1, 3, 0, 400, 65536, 4, 4, -1, 2, 0, 7]
+
+
+# ---------------------------------------------------------------- 01, "Marked and others"
+
+def worked_example():
+    table = tabs(*EXAMPLE)
+    prints('worked example', table + tabs('events', '600 200', '400 375', '599 200', '400 376',
+                                          '350 200', '70000 0'),
+           'Live 3', 'Ring 4', 'Lo 1', 'Hi 3', 'Both 1', 'taken 5', 'spoilt 1')
+    accepted('its plan', table, EXAMPLE_PLAN)
+    check('its plan has 41 words', len(EXAMPLE_PLAN), 41)
+    check('its plan passes', gates.check_plan(EXAMPLE_PLAN), (0, 0))
+    check('(600, 200) in Ring', member(table, [600, 200], 'Ring'), True)
+    check('(400, 375) in Ring', member(table, [400, 375], 'Ring'), True)
+    check('(400, 376) not in Ring', member(table, [400, 376], 'Ring'), False)
+    twice = tabs('dims A B', 'poly P - A B' + ' 0 0 10 0 10 10 0 10' * 2)
+    check('walked twice, (5, 5) in', member(twice, [5, 5], 'P'), True)
+    check('walked twice, (10, 5) in', member(twice, [10, 5], 'P'), True)
+    check('walked twice, (11, 5) out', member(twice, [11, 5], 'P'), False)
+    flat = tabs('dims A B', 'poly P - A B 0 0 4 0 8 0')
+    check('flat, (4, 0) in', member(flat, [4, 0], 'P'), True)
+    check('flat, (4, 1) out', member(flat, [4, 1], 'P'), False)
+    line_fault('matrix 4, 6, 9', 'ellip E - A B 0 0 4 6 9 1', 11)
+    accepted('matrix 5, 6, 9', tabs('dims A B', 'ellip E - A B 0 0 5 6 9 1'))
+    accepted('head alone', tabs('dims A'), [1, 0])
+
+    def eight(vertices):
+        sizes = [256] * 7 + [vertices - 7 * 256]
+        return tabs('dims A B', *['poly P%d - A B' % k + ' 1 2' * size for k, size in enumerate(sizes)])
+
+    check('2,023 vertices', len(gates.compile_table(eight(2023), 4096)[2]), 4096)
+    check('2,023 vertices pass aboard', gates.check_plan(gates.compile_table(eight(2023), 4096)[2]), (0, 0))
+    refused('2,024 vertices', eight(2024), 17, 0)
+
+
+# ---------------------------------------------------------------- 01, "Table lines": text and head
+
+def table_text():
+    base = tabs('dims A', 'rect X - A 0 1')
+    long_number = b'rect\tY\t-\tA\t' + b'9' * (32768 - len(base) - 14) + b'\t*\n'
+    check('padding', len(base + long_number), 32768)
+    refused('32,768 bytes are not too long', base + long_number, 8, 3)
+    refused('32,769 bytes are', base + long_number.replace(b'\t*', b'9\t*'), 1, 0)
+    refused('long before open', base + long_number.replace(b'\t*\n', b'9\t**'), 1, 0)
+    rng = random.Random('sizes')
+    check('a good table of 32,768 bytes',
+          gates.compile_table(generate.byte_size_table(rng, 32768).bytes(), 4096)[:2], (0, 0))
+    refused('a good one of 32,769 but for that', generate.byte_size_table(rng, 32769).bytes(), 1, 0)
+
+    refused('empty table', b'', 2, 0)
+    refused('one LF', b'\n', 3, 1)
+    refused('no last LF', b'dims\tA', 2, 0)
+    refused('no last LF before a bad head', b'bogus', 2, 0)
+    accepted('one line', b'dims\tA\n')
+    refused('empty second line', b'dims\tA\n\n', 4, 2)
+    refused('empty line amid', tabs('dims A', 'rect X - A 0 1', '', 'rect Y - A 0 1'), 4, 3)
+
+    refused('CR after the head', b'dims\tA\r\n', 3, 1)
+    line_fault('CR after a number', 'rect X - A 0 1\r', 7)
+    line_fault('CR after an operand', 'and Y - X X\r', 6, before=['rect X - A 0 1'])
+    line_fault('CR after a kind alone', 'rect\r', 4)
+    line_fault('CR after a dimension', 'rect X - A\r 0 1', 9)
+    line_fault('NUL in a number', 'rect X - A 0 1\0', 7)
+    line_fault('NUL in a name', 'rect X\0 - A 0 1', 6)
+    line_fault('space in a name', b'rect\tX Y\t-\tA\t0\t1', 6)
+    line_fault('spaces part nothing', b'rect X - A 0 1', 4)
+    line_fault('space before a number', b'rect\tX\t-\tA\t 0\t1', 7)
+    line_fault('byte above 127 in a name', b'rect\t\xc3\xa9\t-\tA\t0\t1', 6)
+    line_fault('byte above 127 in a number', b'rect\tX\t-\tA\t\xb2\t1', 7)
+
+    refused('tab after the head', tabs('dims A '), 3, 1)
+    for line in ('rect X - A 0 1 ', 'poly X - A B 0 0 1 0 1 1 ', 'ellip X - A B 0 0 1 0 1 1 ',
+                 'quad X - 1 A 1 0 L -1 H 0 ', 'quad X - 2 A 1 0 B 1 0 L * * ', 'not X - R '):
+        line_fault('tab after %s' % line, line, 5, before=['rect R - A 0 1'])
+    for line in ('and X - R ', 'or X - R R ', 'and X -' + ' R' * 62 + ' '):
+        line_fault('tab after %s' % line[:12], line, 6, before=['rect R - A 0 1'])
+    line_fault('tab after 63 operands', 'and X -' + ' R' * 63 + ' ', 5, before=['rect R - A 0 1'])
+
+    for head in generate.BAD_HEADS:
+        refused('head %r' % head, head + b'\n', 3, 1)
+    refused('head as a gate line', tabs('rect X - A 0 1', 'dims A'), 3, 1)
+    refused('head `events`', tabs('events'), 3, 1)
+    refused('bad head hides the rest', tabs('Dims A', 'bogus'), 3, 1)
+    accepted('eight names', tabs('dims A B C D E F G H'))
+    accepted('sixteen letters', tabs('dims A23456789012345- ABCDEFGHIJKLMNOP'))
+
+    accepted('a gate named as a dimension', tabs('dims A', 'rect A - A 0 1'))
+    refused('a reference to a dimension', tabs('dims A', 'rect X A A 0 1'), 15, 2)
+    names = 'events taken spoilt dims rect in less unclaimed refused dims08'.split()
+    accepted('no word is reserved', tabs('dims events dims', *['rect %s - events 0 1' % name for name in names]))
+    prints('printed alike', tabs('dims dims', 'rect taken - dims 0 9', 'events', '3', '99999', '12'),
+           'taken 1', 'taken 2', 'spoilt 1')
+
+    for field in generate.BAD_NUMBERS:
+        line_fault('number %r' % field, b'rect\tX\t-\tA\t' + field + b'\t*', 7)
+    for number in ('0', '-1', '7', '10', '-65536', '65535', '100'):
+        accepted('number %s' % number, tabs('dims A', 'rect X - A %s *' % number))
+    line_fault('forty digits', 'rect X - A %s *' % FORTY, 8)
+    line_fault('forty digits below zero', 'rect X - A * -%s' % FORTY, 8)
+    line_fault('thirty thousand digits', 'rect X - A * 1' + '0' * 30000, 8)
+    prints('forty digits in the list', tabs('dims A', 'events', FORTY), 'taken 0', 'spoilt 1')
+
+    line_fault('form before range', 'rect X - Z 9 1 A %s x' % FORTY, 7)
+    line_fault('range before dimension', 'rect X - Z 9 1 A %s 0' % FORTY, 8)
+    line_fault('dimension before crossing', 'rect X - Z 9 1 A 1 0', 9)
+    line_fault('crossing last', 'rect X - B 9 1 A 1 0', 10)
+    line_fault('name before form', 'rect 9 - Z 9 x', 6)
+    line_fault('shape before name', 'rect 9 - Z 9', 5)
+    line_fault('kind first', 'Rect 9 - Z 9', 4)
+    line_fault('unknown kind alone', 'bogus', 4)
+    line_fault('known kind alone', 'rect', 5)
+    line_fault('matrix after dimension', 'ellip X - A A 0 0 4 6 9 1', 9)
+    line_fault('range of D2 before the matrix', 'ellip X - A B 0 0 4 6 9 0', 8)
+    line_fault('not rising before no tiling', 'quad X - 1 A 2 5 5 L 0', 10)
+    for kind in ('ellip3', 'tope', 'tree', 'apart', 'Rect', '', 'rec', 'dims'):
+        line_fault('kind %r' % kind, '%s X - A 0 1' % kind, 4)
+
+    for dimension in ('', '9', '*', 'C', 'AA', 'a', '-'):
+        line_fault('dimension %r' % dimension, 'rect X - %s 0 1' % dimension, 9)
+    line_fault('ill-formed dimension after form', 'rect X - 9 0 x', 7)
+    line_fault('ill-formed dimension after range', 'rect X - 9 0 65537', 8)
+
+    for parent in ('', '--', '!R', '9', '*', 'A' * 17):
+        line_fault('parent %r' % parent, 'rect X %s A 0 1' % parent, 6, before=['rect R - A 0 1'])
+    for operand in ('-', '!', '!!R', '*', '', '!-', '9', '!' + 'A' * 17):
+        line_fault('operand %r' % operand, 'and X - R %s' % operand, 6, before=['rect R - A 0 1'])
+    line_fault('gate named -', 'rect - - A 0 1', 6)
+    line_fault('quadrant named -', 'quad X - 1 A 1 0 - -1 H 0', 6)
+    accepted('operand of ! and sixteen letters', tabs('dims A', 'rect ABCDEFGHIJKLMNOP - A 0 1',
+                                                      'not X - !ABCDEFGHIJKLMNOP'))
+
+    for line in ('poly X - A B * 0 1 0 1 1', 'ellip X - A B * 0 1 0 1 1', 'ellip X - A B 0 0 1 * 1 1',
+                 'ellip X - A B 0 0 1 0 1 *', 'quad X - 1 A 1 * L * '.strip()):
+        line_fault('`*` in %s' % line, line, 7)
+    accepted('both bounds missing', tabs('dims A', 'rect X - A * *'), [1, 1, 1, 0, -1, 3, 0, -65536, 65536])
+    accepted('no min, lowest max', tabs('dims A', 'rect X - A * -65535'), [1, 1, 1, 0, -1, 3, 0, -65536, -65535])
+    accepted('highest min, no max', tabs('dims A', 'rect X - A 65535 *'), [1, 1, 1, 0, -1, 3, 0, 65535, 65536])
+    line_fault('max -65536', 'rect X - A * -65536', 8)
+    line_fault('max 65537', 'rect X - A * 65537', 8)
+    line_fault('min 65536', 'rect X - A 65536 *', 8)
+    line_fault('min -65537', 'rect X - A -65537 *', 8)
+    accepted('max 65536', tabs('dims A', 'rect X - A 0 65536'))
+    line_fault('min is max', 'rect X - A 5 5', 10)
+
+    for count in (0, 1, 2, 257, 300):
+        line_fault('%d vertices' % count, 'poly X - A B' + ' 1 1' * count, 5)
+        line_fault('%d vertices and a half' % count, 'poly X - A B' + ' 1 1' * count + ' 1', 5)
+    line_fault('3 vertices and a half', 'poly X - A B 1 1 1 1 1 1 1', 5)
+    accepted('3 vertices', tabs('dims A B', 'poly X - A B' + ' 1 1' * 3))
+    accepted('256 vertices', tabs('dims A B', 'poly X - A B' + ' 1 1' * 256))
+    line_fault('9 triples', 'rect X -' + ' A 0 1' * 9, 5)
+    line_fault('8 triples, 2 dimensions', 'rect X -' + ' A 0 1 B 0 1' * 4, 9)
+    line_fault('two triples of one dimension', 'rect X - A 0 1 A 0 1', 9)
+    line_fault('polygon of one dimension', 'poly X - A A 0 0 1 0 1 1', 9)
+    accepted('an operand again', tabs('dims A', 'rect R - A 0 1', 'and X - R R', 'and Y - R !R'),
+             [1, 3, 1, 0, -1, 3, 0, 0, 1, 4, 1, -1, 2, 0, 0, 4, 2, -1, 2, 0, 1])
+    accepted('63 operands', tabs('dims A', 'rect R - A 0 1', 'or X -' + ' R' * 63))
+    for line in ('and X - R', 'and X -' + ' R' * 64, 'not X -', 'not X - R R', 'ellip X - A B 0 0 1 0 1',
+                 'ellip X - A B 0 0 1 0 1 1 1', 'rect X -', 'rect X', 'rect X - A 0'):
+        line_fault('fields of %s' % line[:30], line, 5, before=['rect R - A 0 1'])
+
+    for line in ('ellip X - A B 65536 0 1 0 1 1', 'ellip X - A B 0 -65537 1 0 1 1',
+                 'ellip X - A B 0 0 16777217 0 1 1', 'ellip X - A B 0 0 1 -16777217 1 1',
+                 'ellip X - A B 0 0 1 0 16777217 1', 'ellip X - A B 0 0 1 0 1 0',
+                 'ellip X - A B 0 0 1 0 1 4097', 'poly X - A B 0 0 1 0 1 65536',
+                 'poly X - A B -65537 0 1 0 1 1', 'quad X - 1 A 1 -65536 L *', 'quad X - 1 A 1 65536 L *',
+                 'quad X - 1 A 1 0 L 65536 H -1', 'quad X - 1 A 1 0 L 0 H -65537'):
+        line_fault('range of %s' % line, line, 8)
+    for line in ('ellip X - A B -65536 65535 16777216 -16777215 16777216 4096', 'ellip X - A B 0 0 1 0 1 1',
+                 'poly X - A B -65536 65535 0 0 1 1', 'quad X - 1 A 2 -65535 65535 L -65536 M 0 H 65535'):
+        accepted('range of %s' % line, tabs('dims A B', line))
+    for matrix in generate.BAD_MATRICES:
+        line_fault('matrix %d %d %d' % matrix, 'ellip X - A B 0 0 %d %d %d 1' % matrix, 11)
+    for matrix in generate.GOOD_MATRICES:
+        accepted('matrix %d %d %d' % matrix, tabs('dims A B', 'ellip X - A B 0 0 %d %d %d 1' % matrix))
+
+
+# ---------------------------------------------------------------- quad lines
+
+def quadrants():
+    for count in ('0', '4', '12', '01', '-1', '*', 'x', ''):
+        line_fault('count of dividers %r' % count, 'quad X - %s A 1 0 L -1 H 0' % count, 5)
+        line_fault('count of values %r' % count, 'quad X - 1 A %s 0 L -1 H 0' % count, 5)
+    line_fault('no quadrant', 'quad X - 1 A 1 0', 5)
+    line_fault('a rest that does not divide', 'quad X - 1 A 1 0 L -1 H', 5)
+    line_fault('too few values', 'quad X - 1 A 3 0 1', 5)
+    line_fault('a divider missing', 'quad X - 2 A 1 0', 5)
+    line_fault('a divider without count', 'quad X - 2 A 1 0 B', 5)
+    line_fault('a name among the values, rest divides', 'quad X - 1 A 1 Lo L -1 H 0', 7)
+    line_fault('a name among the values, rest does not', 'quad X - 1 A 1 Lo -1 Hi 0', 5)
+    line_fault('a name among the values, a number among the names', 'quad X - 1 A 1 Lo -1 Hi', 6)
+    accepted('everything merged', tabs('dims A', 'quad X - 1 A 1 0 All *'), [1, 1, 1, 0, -1, 3, 0, -65536, 65536])
+    table = tabs('dims A', 'quad X - 1 A 1 5 L 4 H 5')
+    accepted('representative on a divider', table, [1, 2, 1, 0, -1, 3, 0, -65536, 5, 1, 1, -1, 3, 0, 5, 65536])
+    check('5 is high', member(table, [5], 'H'), True)
+    check('4 is low', member(table, [4], 'L'), True)
+    line_fault('a dimension in two dividers', 'quad X - 2 A 1 0 A 1 5 L * *', 9)
+    line_fault('equal values', 'quad X - 1 A 2 5 5 L 0 H 9', 10)
+    line_fault('falling values', 'quad X - 1 A 3 1 3 2 L 0 H 9', 10)
+    line_fault('a hole', 'quad X - 1 A 1 0 L -1', 12)
+    line_fault('twice', 'quad X - 1 A 1 0 L -1 H 0 G 5', 12)
+    line_fault('twice and of one name', 'quad X - 1 A 1 0 L -1 H 0 H 5', 12)
+    line_fault('all and one more', 'quad X - 1 A 1 0 L * H 0', 12)
+    line_fault('two dividers, a hole', 'quad X - 2 A 1 0 B 1 0 a -1 -1 b -1 0 c 0 -1', 12)
+    line_fault('named as its gate', 'quad X - 1 A 1 0 X -1 H 0', 14)
+    line_fault('a name twice in one gate', 'quad X - 1 A 1 0 L -1 L 0', 14)
+    line_fault('named as another gate', 'quad X - 1 A 1 0 R -1 H 0', 14, before=['rect R - A 0 1'])
+    line_fault('a gate named as a quadrant', 'rect H - A 0 1', 14, before=['quad X - 1 A 1 0 L -1 H 0'])
+    line_fault('a gate named as a quad gate', 'rect X - A 0 1', 14, before=['quad X - 1 A 1 0 L -1 H 0'])
+    merged = tabs('dims A B', 'quad X - 2 B 1 3 A 2 0 10 low 0 * a 5 -1 b 3 0 c 65535 10')
+    accepted('a triple per divider, in their order', merged,
+             [2, 4,
+              1, 0, -1, 6, 1, -65536, 3, 0, -65536, 65536,
+              1, 1, -1, 6, 1, 3, 65536, 0, -65536, 0,
+              1, 2, -1, 6, 1, 3, 65536, 0, 0, 10,
+              1, 3, -1, 6, 1, 3, 65536, 0, 10, 65536])
+    check('numbered by the line', gates.compile_table(merged, 4096)[3], [b'low', b'a', b'b', b'c'])
+    pinwheel = ('quad X - 3 A 1 0 B 1 0 C 1 0 p -1 0 * q * -1 0 r 0 * -1 s -1 -1 -1 t 0 0 0')
+    accepted('three dividers, no single cut', tabs('dims A B C', pinwheel))
+    cells = ' '.join('r%d %d %d %d' % (k, k // 16 - 2, k // 4 % 4 - 2, k % 4 - 2) for k in range(64))
+    accepted('64 quadrants', tabs('dims A B C', 'quad X - 3 A 3 -1 0 1 B 3 -1 0 1 C 3 -1 0 1 ' + cells))
+    ends = tabs('dims A', 'quad X - 1 A 2 -65535 65535 L -65536 M -65535 H 65535')
+    accepted('the ends of the scale', ends, [1, 3, 1, 0, -1, 3, 0, -65536, -65535,
+                                             1, 1, -1, 3, 0, -65535, 65535, 1, 2, -1, 3, 0, 65535, 65536])
+    check('the lowest value alone', member(ends, [-65536], 'L'), True)
+    check('the next', member(ends, [-65535], 'M'), True)
+    check('the highest', member(ends, [65535], 'H'), True)
+
+
+# ---------------------------------------------------------------- 13 to 18
+
+def whole_tables():
+    good = ['rect R%d - A 0 1' % k for k in range(70)]
+    refused('a bad line after 70 good ones', tabs('dims A', *good, 'bogus'), 4, 72)
+    refused('crowded', tabs('dims A', *good), 13, 66)
+    accepted('64 regions', tabs('dims A', *good[:64]))
+    quad = 'quad Q - 1 A 1 0 L -1 H 0'
+    refused('crowded on a quad line', tabs('dims A', *good[:63], quad), 13, 65)
+    accepted('just not crowded', tabs('dims A', *good[:62], quad))
+    refused('crowded before twin', tabs('dims A', *(good[:64] + good[:1])), 13, 66)
+    refused('twin', tabs('dims A', good[0], good[1], good[0]), 14, 4)
+    refused('first line that repeats', tabs('dims A', good[0], good[1], good[1], good[0]), 14, 4)
+    refused('twin before dead', tabs('dims A', 'rect X Z A 0 1', good[0], good[0]), 14, 4)
+    refused('quad gates count as names', tabs('dims A', quad, good[0], 'rect Q - A 0 1'), 14, 4)
+    refused('unknown parent', tabs('dims A', 'rect X Z A 0 1'), 15, 2)
+    refused('a quad gate as parent', tabs('dims A', quad, 'rect X Q A 0 1'), 15, 3)
+    refused('a quad gate as operand', tabs('dims A', quad, 'and X - L !Q'), 15, 3)
+    refused('dead below a circle', tabs('dims A', 'rect X Y A 0 1', 'rect Y X A 0 1', *good[:6], 'not Z - N'), 15, 10)
+    refused('first dead line', tabs('dims A', good[0], 'not Y - N', 'not Z - N'), 15, 3)
+    refused('names itself', tabs('dims A', 'rect X X A 0 1'), 16, 2)
+    refused('operand of itself', tabs('dims A', good[0], 'and X - R0 !X'), 16, 3)
+    refused('a line that leads in', tabs('dims A', 'not Lead - X', 'rect X Y A 0 1', 'rect Y X A 0 1'), 16, 3)
+    refused('a circle through a quadrant', tabs('dims A', 'quad Q Lo 1 A 1 0 Lo -1 Hi 0'), 16, 2)
+    refused('parent and quad gate alike', tabs('dims A', 'quad Q Q 1 A 1 0 Lo -1 Hi 0'), 15, 2)
+    refused('through a gate and a quadrant',
+            tabs('dims A', good[0], 'not N - Hi', 'quad Q N 1 A 1 0 Lo -1 Hi 0'), 16, 3)
+    refused('! leads on too', tabs('dims A', 'not X - !Y', 'not Y - !X'), 16, 2)
+    refused('two circles', tabs('dims A', 'not L - D', 'not C - D', 'not D - C', 'not E - E'), 16, 3)
+    accepted('no circle: both arms to one', tabs('dims A', 'and X - Y Z', 'not Y - W', 'not Z - W', good[0],
+                                                 'rect W - A 0 1'))
+
+    long_plan = tabs('dims A B', *['poly P%d - A B' % k + ' 1 2' * 256 for k in range(8)])
+    refused('17 with a long slice', long_plan, 17, 0, 9000)
+    refused('17 before 18', long_plan, 17, 0, 0)
+    small = tabs('dims A', 'rect X - A 0 1')
+    check('slice just long enough', gates.compile_table(small, 9)[:2], (0, 0))
+    refused('slice too short', small, 18, 0, 8)
+    refused('no slice', small, 18, 0, 0)
+    refused('no slice and a bad line', small + b'\n', 4, 3, 0)
+
+    # The lowest ready region is looked for anew after each step.
+    accepted('order of steps', tabs('dims A', 'not X - Z', 'not Y - R', 'not Z - R', 'rect R - A 0 1', 'not S - R'),
+             [1, 5, 1, 3, -1, 3, 0, 0, 1, 6, 1, -1, 1, 6, 6, 2, -1, 1, 6, 6, 0, -1, 1, 4, 6, 4, -1, 1, 6])
+    words, names = gates.compile_table(small, 4096)[2:]
+    check('words and regions', (len(words), len(names)), (9, 1))
+
+
+# ---------------------------------------------------------------- 01, "Members of a region"
+
+def membership():
+    box = tabs('dims A B', 'rect X - A 3 7')
+    for value, inside in ((2, False), (3, True), (6, True), (7, False)):
+        check('box at %d' % value, member(box, [value, 0], 'X'), inside)
+    everything = tabs('dims A', 'rect X - A * *', 'rect L - A * -65535', 'rect H - A 65535 *')
+    check('lowest in no bounds', member(everything, [-65536], 'X'), True)
+    check('highest in no bounds', member(everything, [65535], 'X'), True)
+    check('lowest', member(everything, [-65536], 'L'), True)
+    check('next to lowest', member(everything, [-65535], 'L'), False)
+    check('highest', member(everything, [65535], 'H'), True)
+
+    square = ' 0 0 10 0 10 10 0 10'
+    back = ' 0 0 0 10 10 10 10 0'
+    forth_and_back = tabs('dims A B', 'poly P - A B' + square + back)
+    check('forth and back cancel inside', member(forth_and_back, [5, 5], 'P'), False)
+    check('forth and back keep their edges', member(forth_and_back, [10, 3], 'P'), True)
+    reverse = tabs('dims A B', 'poly P - A B' + back)
+    check('the other way round', member(reverse, [5, 5], 'P'), True)
+    # The star's arms reach over each other; its core is wound twice.
+    star = tabs('dims A B', 'poly P - A B 0 10 6 -8 -10 3 10 3 -6 -8')
+    check('core of a star', member(star, [0, 0], 'P'), True)
+    check('between two arms', member(star, [-6, 6], 'P'), False)
+    check('an arm of a star', member(star, [0, 8], 'P'), True)
+    slope = tabs('dims A B', 'poly P - A B 6 0 0 3 6 9')
+    check('on a falling edge', member(slope, [2, 2], 'P'), True)
+    check('on a rising edge', member(slope, [3, 6], 'P'), True)
+    check('on its line, past its end', member(slope, [8, -1], 'P'), False)
+    point = tabs('dims A B', 'poly P - A B 5 5 5 5 5 5')
+    check('a point holds itself', member(point, [5, 5], 'P'), True)
+    check('and nothing else', member(point, [5, 4], 'P'), False)
+    repeated = tabs('dims A B', 'poly P - A B 0 0 0 0 10 0 10 0 0 10 0 10')
+    check('vertices repeated, inside', member(repeated, [2, 2], 'P'), True)
+    check('vertices repeated, outside', member(repeated, [8, 8], 'P'), False)
+    wide = tabs('dims A B', 'poly P - A B -65536 -65536 65535 -65536 65535 65535 -65536 65535')
+    check('the whole scale, a corner', member(wide, [65535, 65535], 'P'), True)
+    check('the whole scale, inside', member(wide, [-65535, 65534], 'P'), True)
+    half = tabs('dims A B', 'poly P - A B -65536 -65536 65535 65535 -65536 65535')
+    check('half the scale, on the slope', member(half, [1, 1], 'P'), True)
+    check('half the scale, just outside', member(half, [2, 1], 'P'), False)
+    check('half the scale, just inside', member(half, [1, 2], 'P'), True)
+    swapped = tabs('dims A B', 'poly P - B A 0 0 9 0 9 3 0 3')
+    check('dimensions in the order of the line', member(swapped, [2, 8], 'P'), True)
+    check('and not of the head', member(swapped, [8, 2], 'P'), False)
+
+    nots = tabs('dims A', 'rect P - A 0 10', 'rect X P A 0 5', 'not N - X', 'and B - P !X', 'not Z - !X',
+                'not K P X', 'or O - !X X')
+    for value, names in ((3, 'P X Z O'), (7, 'P N B K O'), (20, 'N O'), (-65536, 'N O')):
+        check('not and ! at %d' % value, gates.members(nots, [value]), {name.encode() for name in names.split()})
+        check('and by the plan', member(nots, [value], 'N'), b'N' in {name.encode() for name in names.split()})
+    check('spoilt: in nothing', gates.members(nots, [65536]), set())
+    prints('spoilt: not in not', nots + tabs('events', '65536', '-65537'), 'P 0', 'X 0', 'N 0', 'B 0', 'Z 0', 'K 0',
+           'O 0', 'taken 0', 'spoilt 2')
+    prints('spoilt by a dimension that no gate names', tabs('dims A B', 'rect X - A 0 1', 'events', '0 65536', '0 0'),
+           'X 1', 'taken 1', 'spoilt 1')
+    prints('spoilt once for several values', tabs('dims A B', 'events', '70000 -70000'), 'taken 0', 'spoilt 1')
+
+    slanted = tabs('dims A B', 'ellip E - A B 0 0 2 1 1 1')
+    check('slanted, on the rim', member(slanted, [1, 1], 'E'), True)
+    check('slanted, outside', member(slanted, [1, -1], 'E'), False)
+    far = tabs('dims A B', 'ellip E - A B -65536 -65536 16777216 16777215 16777216 4096',
+               'ellip F - A B -65536 65535 16777216 -16777215 16777216 4096')
+    check('far along the axis', member(far, [65535, 65535], 'E'), True)
+    check('far across the axis', member(far, [65535, -65536], 'E'), False)
+    check('far along the other', member(far, [65535, -65536], 'F'), True)
+
+
+# ---------------------------------------------------------------- 01, "The plan": aboard
+
+def plans():
+    def form(label, words, place):
+        check(label, gates.check_plan(words), (0, 0) if place is None else (22, place))
+
+    check('over 4,096 words', gates.check_plan([0] * 4097), (21, 0))
+    check('over 4,096 words of a good plan', gates.check_plan(EXAMPLE_PLAN + [0] * 4096), (21, 0))
+    form('4,096 words', [1, 0] + [0] * 4094, 2)
+    form('empty', [], 0)
+    form('one good word', [3], 1)
+    form('one bad word', [9], 0)
+    form('n is 0', [0, 0], 0)
+    form('no step', [8, 0], None)
+    form('65 steps', [1, 65], 1)
+    form('-1 steps', [1, -1], 1)
+    form('64 steps, none there', [1, 64], 2)
+
+    form('a bad word in a body cut short', [2, 1, 1, 0, -1, 3, 5], 6)
+    form('a body cut short', [2, 1, 1, 0, -1, 3, 1], 7)
+    box = [2, 1, 1, 0, -1, 6, 0, 1, 9, 1, 2, 8]
+    form('a box', box, None)
+    for place, word, bad in ((2, 0, 2), (2, 7, 2), (2, 12, 2), (3, 1, 3), (3, -1, 3), (4, 0, 4), (4, -2, 4),
+                             (5, 0, 5), (5, 4, 5), (5, 27, 5), (6, 2, 6), (6, -1, 6), (9, 0, 9), (7, -65537, 7),
+                             (7, 65536, 7), (8, 65537, 8), (8, 1, 8), (8, 0, 8), (8, -65536, 8), (5, 3, 9),
+                             (5, 9, 12), (1, 0, 2), (0, 1, 9), (1, 2, 12)):
+        words = list(box)
+        words[place] = word
+        form('box, word %d is %d' % (place, word), words, bad)
+    form('box of the whole scale', [1, 1, 1, 0, -1, 3, 0, -65536, 65536], None)
+    form('bounds crossed at the least max', [1, 1, 1, 0, -1, 3, 0, -65535, -65535], 8)
+    form('more triples than dimensions', [1, 1, 1, 0, -1, 6, 0, 0, 1, 0, 0, 1], 9)
+    form('a word left over', box + [1], 12)
+    form('fewer steps than written', [1, 1, 1, 0, -1, 3, 0, 0, 1, 1, 0, -1, 3, 0, 0, 1], 9)
+    form('but a region failed before', [1, 1, 1, 1, -1, 3, 0, 0, 1, 1, 0, -1, 3, 0, 0, 1], 3)
+    form('a kind hides the rest', [2, 1, 9, 70, -9, 1], 2)
+
+    ellipse = [2, 1, 3, 0, -1, 8, 0, 1, 5, 5, 5, 6, 9, 4]
+    form('an ellipse', ellipse, None)
+
+    def ellipse_with(matrix, d2, end=None):
+        return (ellipse[:10] + list(matrix) + [d2])[:end]
+
+    form('a bad matrix', ellipse_with((4, 6, 9), 4), 10)
+    form('c11 of 0', ellipse_with((0, 0, 9), 4), 10)
+    form('c11 below 0', ellipse_with((-5, 6, -9), 4), 10)
+    form('c12 off range', ellipse_with((-5, 16777217, 9), 4), 11)
+    form('c22 off range', ellipse_with((-5, 0, -16777217), 4), 12)
+    form('c11 off range', ellipse_with((16777217, 0, 16777217), 4), 10)
+    form('a bad matrix and a bad D2', ellipse_with((4, 6, 9), 0), 10)
+    form('a good matrix and a bad D2', ellipse_with((5, 6, 9), 4097), 13)
+    form('a bad matrix and no D2', ellipse_with((4, 6, 9), 4, 13), 10)
+    form('a good matrix and no D2', ellipse_with((5, 6, 9), 4, 13), 13)
+    form('no c22', ellipse_with((0, 6, 9), 4, 12), 12)
+    form('no c12', ellipse_with((0, 6, 9), 4, 11), 11)
+    form('a mean off range comes before', ellipse[:8] + [65536, 0, 4, 6, 9, 4], 8)
+    form('ellipse of length 7', [2, 1, 3, 0, -1, 7, 0, 1, 5, 5, 5, 6, 9], 5)
+    form('ellipse of one dimension', [2, 1, 3, 0, -1, 8, 1, 1, 5, 5, 5, 6, 9, 4], 7)
+
+    polygon = [2, 1, 2, 0, -1, 8, 1, 0, 0, 0, 5, 0, 5, 65535]
+    form('a polygon', polygon, None)
+    form('vertex off range', polygon[:-1] + [65536], 13)
+    form('polygon of odd length', [2, 1, 2, 0, -1, 9] + polygon[6:] + [0], 5)
+    form('polygon too short', [2, 1, 2, 0, -1, 6, 1, 0, 0, 0, 5, 0], 5)
+    form('polygon of 256 vertices', [2, 1, 2, 0, -1, 514, 1, 0] + [7] * 512, None)
+    form('polygon of 257 vertices', [2, 1, 2, 0, -1, 516, 1, 0] + [7] * 514, 5)
+    form('polygon of one dimension', [2, 1, 2, 0, -1, 8, 1, 1], 7)
+
+    first = [1, 2, 1, 1, -1, 3, 0, 0, 5]
+    form('regions in any order', first + [4, 0, 1, 2, 2, 3], None)
+    form('own region as parent', first + [4, 0, 0, 2, 2, 3], 11)
+    form('own region as operand', first + [4, 0, 1, 2, 2, 0], 14)
+    form('negative operand', first + [4, 0, 1, 2, -1, 3], 13)
+    form('operand never set', first + [4, 0, 1, 2, 2, 4], 14)
+    form('region set earlier', first + [4, 1, 1, 2, 2, 3], 10)
+    form('one operand for and', first + [4, 0, 1, 1, 2], 12)
+    form('64 operands', first + [5, 0, 1, 64] + [2] * 64, 12)
+    form('63 operands', first + [5, 0, 1, 63] + [2] * 63, None)
+    form('two operands for not', first + [6, 0, 1, 2, 2, 3], 12)
+    form('not', first + [6, 0, 1, 1, 3], None)
+    form('second step missing', first, 9)
+    for kind in range(7, 13):
+        form('kind %d' % kind, [2, 1, kind, 0, -1, 8], 2)
+    for end in range(len(EXAMPLE_PLAN)):
+        form('the example cut off after %d' % end, EXAMPLE_PLAN[:end], end)
+
+    check('judging', gates.judge(EXAMPLE_PLAN, [350, 200]), (0, 0, 0b10111))
+    check('judging an event too short', gates.judge(EXAMPLE_PLAN, [350]), (23, 1, 0))
+    check('judging an event too long', gates.judge(EXAMPLE_PLAN, [350, 70000, 1]), (23, 3, 0))
+    check('judging an event of nothing', gates.judge(EXAMPLE_PLAN, []), (23, 0, 0))
+    check('judging a spoilt event', gates.judge(EXAMPLE_PLAN, [350, 65536]), (24, 1, 0))
+    check('first bad value', gates.judge(EXAMPLE_PLAN, [-65537, 65536]), (24, 0, 0))
+    check('malformed before ragged', gates.judge(EXAMPLE_PLAN[:7], []), (22, 7, 0))
+    check('long before all', gates.judge([0] * 4097, []), (21, 0, 0))
+    zeros = [0] * 64
+    check('counting', gates.count(EXAMPLE_PLAN, [600, 200, 70000, 0]), (0, 0, 1, 1, [0, 1, 0, 1] + [0] * 60))
+    check('counting a ragged list', gates.count(EXAMPLE_PLAN, [600, 200, 1]), (23, 3, 0, 0, zeros))
+    check('counting an empty list', gates.count(EXAMPLE_PLAN, []), (0, 0, 0, 0, zeros))
+    check('counting by a bad plan', gates.count(EXAMPLE_PLAN[:-1], [1]), (22, 40, 0, 0, zeros))
+    check('counting by a long plan', gates.count([1] * 4097, [1]), (21, 0, 0, 0, zeros))
+
+
+# ---------------------------------------------------------------- gatecount
+
+def program():
+    table = tabs('dims A', 'rect X - A 0 10')
+    head = tabs('dims A')
+    two = tabs('dims A B')
+
+    prefix = table + b'events\n'
+    for size, wanted in ((65536, tabs('X 0', 'taken 0', 'spoilt 1')), (65537, tabs('refused 1 0'))):
+        data = prefix + b'9' * (size - len(prefix) - 1) + b'\n'
+        check('input of %d bytes' % size, (len(data), gates.gatecount(data)), (size, wanted))
+    prints('long before all', b'x' * 65537, 'refused 1 0')
+    prints('a table part over 32,768', head + b'x' * 33000 + b'\nevents\n1\n', 'refused 1 0')
+    prints('without a list all is table', head + b'x' * 33000, 'refused 1 0')
+    for line in (b'events\r', b'events\t', b' events', b'Events', b'events '):
+        prints('%r is a table line' % line, table + line + b'\n5\n', 'refused 4 3')
+    prints('events first', b'events\n1\n', 'refused 2 0')
+    prints('events alone', b'events', 'refused 2 0')
+    prints('events without LF', table + b'events', 'refused 23 3')
+    prints('events without LF below a bad table', tabs('dims') + b'events', 'refused 3 1')
+    prints('table first', tabs('dims A', 'bogus', 'events', 'x'), 'refused 4 2')
+    prints('no list', table, 'X 0', 'taken 0', 'spoilt 0')
+    prints('no list, no last LF', table[:-1], 'refused 2 0')
+    prints('no list, over 32,768', table + b'rect\tY\t-\tA\t0\t' + b'1' * 40000 + b'\n', 'refused 1 0')
+    prints('lowest bad line', table + tabs('events', '1', '2 3', 'x') + b'4', 'refused 23 5')
+    prints('last line open', table + tabs('events', '1') + b'4', 'refused 23 5')
+    prints('last line open and empty of meaning', table + tabs('events') + b'\t', 'refused 23 4')
+    prints('empty line', table + tabs('events', '1', '', '2'), 'refused 23 5')
+    prints('empty line last', table + tabs('events', '1', ''), 'refused 23 5')
+    prints('empty line alone', table + tabs('events', ''), 'refused 23 4')
+    prints('events again', table + tabs('events', '1', 'events', '2'), 'refused 23 5')
+    prints('events twice at once', table + tabs('events', 'events'), 'refused 23 4')
+    prints('events again without LF', table + tabs('events') + b'events', 'refused 23 4')
+    prints('too few', two + tabs('events', '1 2', '1'), 'refused 23 4')
+    prints('too many', two + tabs('events', '1 2', '1 2 3'), 'refused 23 4')
+    prints('tab at the end', two + tabs('events', '1 2 '), 'refused 23 3')
+    prints('ragged in all but not by lines', two + tabs('events', '1', '2 3 4'), 'refused 23 3')
+    for number in ('4294967296', '2147483648', '-2147483649', '2147483647', '-2147483648', FORTY, '-' + FORTY,
+                   '65536', '-65537', '1' + '0' * 5000, '18446744073709551616', '4294967301'):
+        prints('far number %.30s' % number, table + tabs('events', number, '5'), 'X 1', 'taken 1', 'spoilt 1')
+    for field in generate.BAD_EVENTS:
+        check('bad number %r' % field, gates.gatecount(table + b'events\n5\n' + field + b'\n'), tabs('refused 23 5'))
+    prints('a long bad number', table + tabs('events', FORTY + 'x'), 'refused 23 4')
+    prints('spoilt before bad', table + tabs('events', FORTY, 'x'), 'refused 23 5')
+    prints('no event', table + tabs('events'), 'X 0', 'taken 0', 'spoilt 0')
+    prints('head alone', head, 'taken 0', 'spoilt 0')
+    prints('head alone, events', head + tabs('events', '1', '70000'), 'taken 1', 'spoilt 1')
+    prints('limits', head + tabs('events', '-65536', '65535', '65536', '-65537'), 'taken 2', 'spoilt 2')
+    prints('empty input', b'', 'refused 2 0')
+    long_plan = tabs('dims A B', *['poly P%d - A B' % k + ' 1 2' * 256 for k in range(8)])
+    prints('long plan before a bad list', long_plan + tabs('events', 'x'), 'refused 17 0')
+
+
+# ---------------------------------------------------------------- random tables
+
+def winding(vertices, x, y):
+    """Times an outline goes round a point not on it, by a ray along x and whole angles.
+
+    Each edge is put into one of four quarters round the point at both ends; the quarters
+    passed add up to four times the winding number.
+    """
+    points = [(vx - x, vy - y) for vx, vy in zip(vertices[0::2], vertices[1::2])]
+
+    def quarter(a, b):
+        if b >= 0:
+            return 0 if a > 0 or (a == 0 and b == 0) else 1 if b > 0 or a == 0 else 2
+        return 3 if a >= 0 else 2
+
+    total = 0
+    for (ax, ay), (bx, by) in zip(points, points[1:] + points[:1]):
+        turn = (quarter(bx, by) - quarter(ax, ay)) % 4
+        if turn == 2:
+            turn = 2 if ax * by - ay * bx > 0 else -2
+        elif turn == 3:
+            turn = -1
+        total += turn
+    return total // 4
+
+
+def on_outline(vertices, x, y):
+    """On some edge, by the share of the way along it."""
+    points = list(zip(vertices[0::2], vertices[1::2]))
+    for (x0, y0), (x1, y1) in zip(points, points[1:] + points[:1]):
+        if x1 != x0:
+            share = Fraction(x - x0, x1 - x0)
+        elif y1 != y0:
+            share = Fraction(y - y0, y1 - y0)
+        else:
+            share = Fraction(0)
+        if 0 <= share <= 1 and x0 + share * (x1 - x0) == x and y0 + share * (y1 - y0) == y:
+            return True
+    return False
+
+
+def outlines(seed):
+    """The polygon's sum against turns round the point; the ellipse against 000's own form."""
+    rng = random.Random('%s outlines' % seed)
+    inside = on_edge = 0
+    for _ in range(300):
+        table = generate.Table(rng, n=2, span=rng.choice(((-5, 5), (-9, 9), (-65536, 65535))))
+        line = table.poly()
+        vertices = [int(field) for field in line.fields[5:]]
+        x_first = line.fields[3] == table.dimensions[0]
+        for event in table.events(12):
+            x, y = event if x_first else event[::-1]
+            edge = on_outline(vertices, x, y)
+            wanted = edge or winding(vertices, x, y) != 0
+            on_edge += edge
+            inside += wanted
+            check('polygon %s at %d %d' % (vertices, x, y), gates.polygon_holds(vertices, x, y), wanted)
+    check('events on edges and inside were met', on_edge > 300 and inside > on_edge + 100, True)
+    rims = 0
+    for _ in range(300):
+        table = generate.Table(rng, n=2)
+        line = table.ellip()
+        mx, my, c11, c12, c22, d2 = [int(field) for field in line.fields[5:]]
+        x_first = line.fields[3] == table.dimensions[0]
+        for event in table.events(8):
+            x, y = event if x_first else event[::-1]
+            dx, dy = x - mx, y - my
+            det = c11 * c22 - c12 * c12
+            inverse = (Fraction(c22, det), Fraction(-c12, det), Fraction(c11, det))
+            distance = dx * (inverse[0] * dx + inverse[1] * dy) + dy * (inverse[1] * dx + inverse[2] * dy)
+            rims += distance == d2
+            check('ellipse %s at %d %d' % (line.fields[5:], x, y),
+                  gates.ellipse_holds(mx, my, c11, c12, c22, d2, x, y), distance <= d2)
+    check('events on rims were met', rims > 100, True)
+
+
+def accepted_tables(seed, count):
+    """Plan against lines, orders of lines, sums of quadrants, order of steps."""
+    makers = (generate.small_table, generate.referring_table, generate.referring_table, generate.chain_table,
+              generate.full_table, generate.wide_table)
+    for number in range(count):
+        rng = random.Random('%s table %d' % (seed, number))
+        maker = rng.choices(makers, (8, 8, 8, 1, 1, 1))[0]
+        table = maker(rng)
+        data = table.bytes()
+        where = 'table %d: ' % number
+        refusal, place, words, names = gates.compile_table(data, 4096)
+        check(where + 'accepted', (refusal, place), (0, 0))
+        if refusal:
+            continue
+        check(where + 'as long as foreseen', len(words), table.words)
+        check(where + 'the plan passes', gates.check_plan(words), (0, 0))
+        check(where + 'in order', steps_in_order(words), True)
+        for end in rng.sample(range(len(words)), min(5, len(words))):
+            check(where + 'cut off after %d' % end, gates.check_plan(words[:end]), (22, end))
+        check(where + 'a word more', gates.check_plan(words + [0])[1] if len(words) < 4096 else len(words), len(words))
+
+        events = table.events(12)
+        member_of = gates.membership(data)
+        by_name = {name: 0 for name in names}
+        for event in events:
+            inside = member_of(event)
+            for name in inside:
+                by_name[name] += 1
+            bits = sum(1 << region for region, name in enumerate(names) if name in inside)
+            bad = [at for at, value in enumerate(event) if not -65536 <= value <= 65535]
+            wanted = (24, bad[0], 0) if bad else (0, 0, bits)
+            check(where + 'event %s' % event, gates.judge(words, event), wanted)
+        taken = sum(1 for event in events if all(-65536 <= value <= 65535 for value in event))
+        flat = [value for event in events for value in event]
+        wanted = [by_name[name] for name in names] + [0] * (64 - len(names))
+        check(where + 'tally', gates.count(words, flat), (0, 0, taken, len(events) - taken, wanted))
+
+        list_ = b'events\n' + generate.join(generate.event_lines(events))
+        printed = printed_by_name(gates.gatecount(data + list_))
+        check(where + 'printed', printed, (by_name, taken, len(events) - taken))
+        lines = [table.head()] + [line.bytes() for line in table.lines]
+        for other in generate.orders(rng, lines, 3):
+            check(where + 'another order', printed_by_name(gates.gatecount(other + list_)), printed)
+        for line in table.lines:
+            if line.kind == b'quad':
+                whole = taken if line.fields[2] == b'-' else by_name[line.fields[2]]
+                total = sum(by_name[line.fields[at]] for at in line.places('quadrant'))
+                check(where + 'quadrants add up', total, whole)
+
+
+def printed_by_name(output):
+    lines = [line.split(b'\t') for line in output.split(b'\n')[:-1]]
+    if len(lines) < 2:
+        return output
+    return {name: int(number) for name, number in lines[:-2]}, int(lines[-2][1]), int(lines[-1][1])
+
+
+def steps_in_order(words):
+    """Before each step no lower region is both unwritten and ready."""
+    steps = gates.plan_steps(words)
+    waits = {region: {parent} - {-1} | ({word // 2 for word in body} if kind >= 4 else set())
+             for kind, region, parent, body in steps}
+    written = set()
+    for _, region, _, _ in steps:
+        ready = [other for other in waits if other not in written and waits[other] <= written]
+        if region != min(ready):
+            return False
+        written.add(region)
+    return True
+
+
+def circles(seed):
+    """The line of 16 by a closed matrix of who reaches whom."""
+    met = 0
+    for number in range(300):
+        rng = random.Random('%s circle %d' % (seed, number))
+        data = generate.circle_table(rng).bytes()
+        lines = [gates.read_gate(line.split(b'\t')) for line in data[:-1].split(b'\n')[1:]]
+        size = len(lines)
+        reaches = [[any(name in other.regions() for name in line.references()) for other in lines] for line in lines]
+        for k in range(size):
+            for i in range(size):
+                if reaches[i][k]:
+                    reaches[i] = [a or b for a, b in zip(reaches[i], reaches[k])]
+        first = next((at for at in range(size) if reaches[at][at]), None)
+        leads = any(reaches[at][k] and reaches[k][k] for at in range(first or 0) for k in range(size))
+        met += leads
+        check('circle %d' % number, gates.compile_table(data, 4096)[:2], (16, first + 2))
+    check('lines that lead in were met', met > 50, True)
+
+
+def generated(seed, count):
+    """Inputs made for a refusal meet it; together they meet all of them."""
+    met = set()
+    for number in range(count):
+        case = generate.case(seed, number)
+        output = gates.gatecount(case.data)
+        fields = output.split(b'\n')[0].split(b'\t')
+        refusal = int(fields[1]) if len(fields) == 3 and fields[0] == b'refused' else 0
+        met.add(refusal)
+        if case.refusals:
+            check('input %d (%s)' % (number, case.label), refusal in case.refusals and refusal, refusal)
+        if case.place is not None:
+            check('input %d (%s), place' % (number, case.label), int(fields[2]), case.place)
+    check('every refusal of the program was met', met, set(range(18)) | {23})
+
+
+def random_plans(seed, count):
+    """Plans made directly pass; each role's damage is met; a place is where 01 puts it."""
+    met = set()
+    for number in range(count):
+        rng = random.Random('%s plan %d' % (seed, number))
+        plan = generate.Plan(rng)
+        check('plan %d' % number, gates.check_plan(plan.words), (0, 0))
+        words = generate.damage_plan(rng, plan)
+        refusal, place = gates.check_plan(words)
+        if refusal == 22:
+            met.add(plan.roles[place] if place < min(len(words), len(plan.roles)) else 'end')
+            check('place of damaged plan %d' % number, 0 <= place <= len(words), True)
+            # All before the place is good: cut off there, the words just run out, or
+            # the plan is whole when what stood there was left over.
+            check('damaged plan %d cut off at its place' % number,
+                  gates.check_plan(words[:place]) in ((22, place), (0, 0)), True)
+    check('every role was damaged', met >= set(generate.ROLES) | {'end'}, True)
+
+
+def main():
+    parser = argparse.ArgumentParser(description='Test the reference.')
+    parser.add_argument('--seed', default='1')
+    parser.add_argument('--tables', type=int, default=400, metavar='N')
+    options = parser.parse_args()
+    worked_example()
+    table_text()
+    quadrants()
+    whole_tables()
+    membership()
+    plans()
+    program()
+    outlines(options.seed)
+    accepted_tables(options.seed, options.tables)
+    circles(options.seed)
+    generated(options.seed, 5 * options.tables)
+    random_plans(options.seed, 5 * options.tables)
+    print('%d passed, %d failed' % (passed, failed))
+    sys.exit(1 if failed else 0)
+
+
+if __name__ == '__main__':
+    main()

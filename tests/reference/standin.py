@@ -1,0 +1,59 @@
+#!/usr/bin/env python3
+"""The reference dressed up as the two executables that tests/compare.py asks.
+
+    standin.py gatecount    standard input to standard output
+    standin.py plans        one answer line per question line (see tests/compare.py)
+
+It serves to test the comparison itself: without a planted fault nothing may differ.
+"""
+
+import os
+import sys
+
+sys.path.insert(0, os.path.dirname(os.path.abspath(__file__)))
+
+import gates
+
+FILL = 77777777
+
+
+def numbers(values):
+    return ' '.join(str(value) for value in values)
+
+
+def answer(line):
+    fields = line.decode().split(' ')
+    verb, rest = fields[0], fields[1:]
+    if verb == 'compile':
+        lent = [FILL] * int(rest[0])
+        table = b'' if rest[1] == '-' else bytes.fromhex(rest[1])
+        number, place, words, names = gates.compile_table(table, len(lent))
+        written = words or []
+        lent[:len(written)] = written
+        beyond = sum(1 for word in lent[len(written):] if word != FILL)
+        return numbers([number, place, len(written), len(names), beyond] + lent[:len(written)])
+    size = int(rest[0])
+    words = [int(field) for field in rest[1:1 + size]]
+    if verb == 'check':
+        return numbers(gates.check_plan(words))
+    values = [int(field) for field in rest[2 + size:2 + size + int(rest[1 + size])]]
+    if verb == 'judge':
+        number, place, bits = gates.judge(words, values)
+        return '%d %d %s' % (number, place, ''.join(str(bits >> r & 1) for r in range(64)))
+    number, place, taken, spoilt, counts = gates.count(words, values)
+    return numbers([number, place, taken, spoilt] + counts)
+
+
+def main():
+    data = sys.stdin.buffer.read()
+    if sys.argv[1:] == ['gatecount']:
+        sys.stdout.buffer.write(gates.gatecount(data))
+    elif sys.argv[1:] == ['plans']:
+        for line in data.splitlines():
+            print(answer(line))
+    else:
+        sys.exit('standin.py gatecount | plans')
+
+
+if __name__ == '__main__':
+    main()
