@@ -116,15 +116,14 @@ pub fn count_passed(plan: &[i32], events: &[i32]) -> Counted
     let mut j = 0;
     while j < m {
         let start = j * n;
-        let verdict = judge_passed(plan, &events[start..start + n]);
-        match verdict {
-            Judged::Bits(b) => {
-                bump(&mut t.counts, b);
-                t.taken += 1;
-            }
-            Judged::Refused(_) => {
-                t.spoilt += 1;
-            }
+        let event = &events[start..start + n];
+        let i = first_spoilt(event);
+        if i < n {
+            t.spoilt += 1;
+        } else {
+            let b = bits_of(plan, event);
+            bump(&mut t.counts, b);
+            t.taken += 1;
         }
         j += 1;
     }
