@@ -1,0 +1,273 @@
+-- Theorems about the definitions of the events: how the input is parted, which lines the events are, how many values they have, and what is kept of each.
+use mathlib.Core.Path.{_≡_, refl, sym, _∙_, ap}
+use mathlib.Core.Bool.{Bool, true, false, cond}
+use mathlib.Core.Logic.{_⊎_, inl, inr, ⊎-elim}
+use mathlib.Core.List.{List, [], _∷_, _++_, flatMap}
+use Prim.Native.Nat.{ℕ, zero, suc, _+_, _-_, _*_, _≤_, _<_}
+use native.Mathlib.Nat.{zero-mul, suc-mul}
+use native.Mathlib.Omega.{arith}
+use lib.Dec.{eqb}
+use lib.IntN.{ℤ, pos, negsuc}
+use lib.ListN.{length, getD, take, drop, take-append-drop, length-append, length-drop, drop-of-length-le, List·getD-eq-default}
+use lib.Seq.{take-all, drop-drop}
+use borrow.Author.Tests.{ltb-true, ltb-false, lt-ltb, le-ltb, le-leb, eqb-true, not-true, not-false}
+use Rattle.text.specs.Bytes.{bytes, same, every, before}
+use Rattle.text.specs.Numbers.{isNegative, unsigned, isPositive, isNumber, numberValue, within, readNumber}
+use Rattle.text.specs.Lines.{fields, unfields, lines, unlines, endsInLF, findFrom, lineFrom, lineStarts}
+use Rattle.text.proofs.TestLaws.{true≢false, and-left, and-right, passed-or-failed, lt-or-ge}
+use Rattle.text.proofs.BytesLaws.{rest-cons, before-found, before-first, same-eq}
+use Rattle.text.proofs.LinesLaws.{lines-cut, line-length, fields-some, lineStarts-length, start-inside, lines-from-start, line-at-start}
+use Rattle.text.proofs.NumbersLaws.{within-event, clamp-within, read-value}
+use Rattle.text.proofs.TextTheorems.{unlines-lines, unfields-fields}
+use Rattle.events.specs.Parting.{tableLines, tableEnd, hasEvents, eventsEnded, tablePart, eventPart}
+use Rattle.events.specs.Listing.{Events, list, ragged, isEvent, eventLines, badLine, valueOf, lineValues, values, eventsOf, answerOf}
+use Rattle.events.specs.declared.listing.Answer.the-variants.{Values, Short}
+use Rattle.events.proofs.ListingLaws.{isBad, lineValues-length}
+use Rattle.events.proofs.AnswerLaws.{events-none, events-open, events-ragged, events-listed}
+
+-- ── The input parted ──
+
+-- without the line `events` all input is table
+module _ (s : List ℕ) (h : hasEvents s ≡ false) where
+  end-is : tableEnd s ≡ length s
+  unfolding hasEvents tableEnd
+  end-is = List·getD-eq-default (lineStarts s) (length s) {n = tableLines s} (omega (arith, ltb-false (tableLines s) (length (lines s)) h, lineStarts-length s))
+
+  pub table-all : tablePart s ≡ s
+  unfolding tablePart
+  table-all = take-all (tableEnd s) s (omega (arith, end-is))
+
+  pub events-no-part : eventPart s ≡ []
+  unfolding eventPart
+  events-no-part = drop-of-length-le s {i = tableEnd s + 7} (omega (arith, end-is))
+
+module _ (s : List ℕ) (h : hasEvents s ≡ true) where
+  is-line : tableLines s < length (lines s)
+  unfolding hasEvents
+  is-line = ltb-true (tableLines s) (length (lines s)) h
+
+  begins : tableEnd s ≡ getD (lineStarts s) (tableLines s) 0
+  unfolding tableEnd
+  begins = default-free (lineStarts s) (tableLines s) (length s) (omega (arith, lineStarts-length s, is-line))
+    where
+      default-free : (l : List ℕ) (i d : ℕ) → i < length l → getD l i d ≡ getD l i 0
+      default-free [] i d k = absurd (omega arith)
+      default-free (x ∷ l) zero d k = refl
+      default-free (x ∷ l) (suc i) d k = default-free l i d (omega arith)
+
+  inside : tableEnd s < length s
+  inside = omega (arith, begins, start-inside s (tableLines s) is-line)
+
+  line-is : lineFrom s (tableEnd s) ≡ bytes "events"
+  unfolding tableLines
+  line-is =
+      rw begins
+      (line-at-start s (tableLines s) is-line ∙ sym (same-eq (bytes "events") (getD (lines s) (tableLines s) []) (before-found (same (bytes "events")) [] (lines s) is-line)))
+
+  lf-at : findFrom s (tableEnd s) 10 ≡ tableEnd s + 6
+  lf-at = sym (line-length s (tableEnd s) inside) ∙ ap (λ (l : List ℕ). tableEnd s + length l) line-is
+
+  line-first : take 6 (drop (tableEnd s) s) ≡ bytes "events"
+  unfolding lineFrom
+  line-first = let e : findFrom s (tableEnd s) 10 - tableEnd s ≡ 6 = omega (arith, lf-at) in rw e at line-is
+
+  parted-at : s ≡ tablePart s ++ (bytes "events" ++ drop (tableEnd s + 6) s)
+  unfolding tablePart
+  parted-at =
+      sym (take-append-drop (tableEnd s) s)
+      ∙ ap (λ (r : List ℕ). take (tableEnd s) s ++ r) (sym (take-append-drop 6 (drop (tableEnd s) s)) ∙ rw (line-first, drop-drop 6 (tableEnd s) s))
+
+  -- the table, the line `events` and its LF, the events
+  pub input-parted : eventsEnded s ≡ true → s ≡ tablePart s ++ (bytes "events" ++ (10 ∷ eventPart s))
+  unfolding eventsEnded eventPart
+  input-parted e =
+      let b : getD s (tableEnd s + 6) 0 ≡ 10 = eqb-true (getD s (tableEnd s + 6) 0) 10 e in
+      let i : tableEnd s + 6 < length s = within-list s (tableEnd s + 6) b in
+      let k : tableEnd s + 6 + 1 ≡ tableEnd s + 7 = omega arith in
+      parted-at ∙ rw (rest-cons s (tableEnd s + 6) 0 i, b, k)
+    where
+      within-list : (l : List ℕ) (i : ℕ) → getD l i 0 ≡ 10 → i < length l
+      within-list l i b =
+          ⊎-elim
+          (λ (k : i < length l). k)
+          (λ (k : length l ≤ i). absurd (let z : getD l i 0 ≡ 0 = List·getD-eq-default l 0 k in omega arith))
+          (lt-or-ge i (length l))
+
+  -- the lines of the events follow the line `events`: line k of them is line tableLines + 1 + k of the input
+  pub event-lines : lines (eventPart s) ≡ drop (tableLines s + 1) (lines s)
+  unfolding eventPart
+  event-lines =
+      let k : findFrom s (tableEnd s) 10 + 1 ≡ tableEnd s + 7 = omega (arith, lf-at) in
+      let c : lineFrom s (tableEnd s) ∷ lines (drop (tableEnd s + 7) s) ≡ drop (tableLines s) (lines s) =
+      rw k at (sym (lines-cut s (tableEnd s) inside)) ∙ (rw (← begins) at (lines-from-start s (tableLines s) is-line)) in
+      ap (drop 1) c ∙ drop-drop 1 (tableLines s) (lines s)
+
+-- ── The lowest bad line ──
+
+module _ (n : ℕ) (s : List ℕ) where
+  bad-early : eventLines n s < length (lines s) → badLine n s ≡ eventLines n s + 1
+  unfolding badLine
+  bad-early h = rw (lt-ltb (eventLines n s) (length (lines s)) h)
+
+  bad-late : length (lines s) ≤ eventLines n s → badLine n s ≡ cond (endsInLF s) 0 (length (lines s))
+  unfolding badLine
+  bad-late h = rw (le-ltb (eventLines n s) (length (lines s)) h)
+
+  event-at : (k : ℕ) → k < eventLines n s → isEvent n (getD (lines s) k []) ≡ true
+  unfolding eventLines
+  event-at k h = not-false (isEvent n (getD (lines s) k [])) (before-first (isBad n) [] (lines s) k h)
+
+  no-event : eventLines n s < length (lines s) → isEvent n (getD (lines s) (eventLines n s) []) ≡ false
+  unfolding eventLines
+  no-event h = not-true (isEvent n (getD (lines s) (eventLines n s) [])) (before-found (isBad n) [] (lines s) h)
+
+  all-events : length (lines s) ≤ eventLines n s → every (isEvent n) (lines s) ≡ true
+  unfolding eventLines
+  all-events h = go (lines s) h
+    where
+      go : (ls : List (List ℕ)) → length ls ≤ before (isBad n) ls → every (isEvent n) ls ≡ true
+      go [] l = refl
+      go (x ∷ ls) l = both (passed-or-failed (isEvent n x)) (go ls)
+        where
+          both : (isEvent n x ≡ true) ⊎ (isEvent n x ≡ false) → (length ls ≤ before (isBad n) ls → every (isEvent n) ls ≡ true) → every (isEvent n) (x ∷ ls) ≡ true
+          both (inl e) r = let k : suc (length ls) ≤ suc (before (isBad n) ls) = rw e at l in rw e (r (omega arith))
+          both (inr e) r = absurd (let k : suc (length ls) ≤ 0 = rw e at l in omega arith)
+
+  -- every line below it is an event
+  pub below-bad : (k : ℕ) → k + 1 < badLine n s → isEvent n (getD (lines s) k []) ≡ true
+  below-bad k h =
+      ⊎-elim
+      (λ (l : eventLines n s < length (lines s)). event-at k (omega (arith, bad-early l)))
+      (λ (l : length (lines s) ≤ eventLines n s). event-at k (late (endsInLF s) l (rw (bad-late l) at h)))
+      (lt-or-ge (eventLines n s) (length (lines s)))
+    where
+      late : (b : Bool) → length (lines s) ≤ eventLines n s → k + 1 < cond b 0 (length (lines s)) → k < eventLines n s
+      late true l q = omega arith
+      late false l q = omega arith
+
+  -- it is no event, or it is the last and without LF
+  pub bad-is : 0 < badLine n s → (isEvent n (getD (lines s) (badLine n s - 1) []) ≡ false) ⊎ ((badLine n s ≡ length (lines s)) × (endsInLF s ≡ false))
+  bad-is h =
+      ⊎-elim
+      (λ (l : eventLines n s < length (lines s)). let k : badLine n s - 1 ≡ eventLines n s = omega (arith, bad-early l) in inl (rw k (no-event l)))
+      (λ (l : length (lines s) ≤ eventLines n s). inr (late (passed-or-failed (endsInLF s)) l))
+      (lt-or-ge (eventLines n s) (length (lines s)))
+    where
+      late : (endsInLF s ≡ true) ⊎ (endsInLF s ≡ false) → length (lines s) ≤ eventLines n s → (badLine n s ≡ length (lines s)) × (endsInLF s ≡ false)
+      late (inl e) l = absurd (let z : badLine n s ≡ 0 = bad-late l ∙ rw e in omega arith)
+      late (inr e) l = (bad-late l ∙ rw e, e)
+
+  -- where there is none, every line is an event, and the last ends in LF
+  pub none-bad : badLine n s ≡ 0 → (every (isEvent n) (lines s) ≡ true) × ((lines s ≡ []) ⊎ (endsInLF s ≡ true))
+  none-bad e =
+      ⊎-elim
+      (λ (l : eventLines n s < length (lines s)). absurd (omega (arith, bad-early l)))
+      (λ (l : length (lines s) ≤ eventLines n s). (all-events l, late (passed-or-failed (endsInLF s)) l))
+      (lt-or-ge (eventLines n s) (length (lines s)))
+    where
+      no-lines : (ls : List (List ℕ)) → length ls ≡ 0 → ls ≡ []
+      no-lines [] k = refl
+      no-lines (x ∷ ls) k = absurd (omega arith)
+
+      late : (endsInLF s ≡ true) ⊎ (endsInLF s ≡ false) → length (lines s) ≤ eventLines n s → (lines s ≡ []) ⊎ (endsInLF s ≡ true)
+      late (inl f) l = inr f
+      late (inr f) l = inl (no-lines (lines s) (sym (bad-late l ∙ rw f) ∙ e))
+
+-- ── How many values ──
+
+-- a number has a digit
+number-some : (f : List ℕ) → isNumber f ≡ true → 1 ≤ length f
+unfolding isNumber isPositive unsigned isNegative same
+number-some [] e = absurd (true≢false (sym e))
+number-some (x ∷ f) e = omega arith
+
+-- so many numbers and their tabs
+fields-bytes : (fs : List (List ℕ)) → 0 < length fs → every isNumber fs ≡ true → 2 * length fs ≤ length (unfields fs) + 1
+fields-bytes [] h e = absurd (omega arith)
+fields-bytes (f ∷ []) h e = omega (arith, number-some f (and-left (isNumber f) true e))
+fields-bytes (f ∷ (g ∷ fs)) h e =
+    simp length-append
+    (omega (arith, number-some f (and-left (isNumber f) (every isNumber (g ∷ fs)) e), fields-bytes (g ∷ fs) (omega arith) (and-right (isNumber f) (every isNumber (g ∷ fs)) e)))
+
+module _ (n : ℕ) (l : List ℕ) (e : isEvent n l ≡ true) where
+  event-values : length (lineValues l) ≡ n
+  unfolding isEvent
+  event-values = lineValues-length l ∙ eqb-true (length (fields l)) n (and-left (eqb (length (fields l)) n) (every isNumber (fields l)) e)
+
+  event-bytes : 2 * length (lineValues l) ≤ length l + 1
+  unfolding isEvent fields
+  event-bytes =
+      omega (
+        arith,
+        lineValues-length l,
+        ap length (unfields-fields l),
+        fields-bytes (fields l) (fields-some 9 l) (and-right (eqb (length (fields l)) n) (every isNumber (fields l)) e),
+      )
+
+module _ (n : ℕ) where
+  lines-values : (ls : List (List ℕ)) → every (isEvent n) ls ≡ true → length (flatMap lineValues ls) ≡ length ls * n
+  unfolding flatMap
+  lines-values [] e = sym (zero-mul n)
+  lines-values (l ∷ ls) e =
+      simp (length-append, suc-mul)
+      (omega (arith, event-values n l (and-left (isEvent n l) (every (isEvent n) ls) e), lines-values ls (and-right (isEvent n l) (every (isEvent n) ls) e)))
+
+  lines-bytes : (ls : List (List ℕ)) → every (isEvent n) ls ≡ true → 2 * length (flatMap lineValues ls) ≤ length (unlines ls)
+  unfolding flatMap
+  lines-bytes [] e = omega arith
+  lines-bytes (l ∷ ls) e =
+      simp length-append
+      (omega (arith, event-bytes n l (and-left (isEvent n l) (every (isEvent n) ls) e), lines-bytes ls (and-right (isEvent n l) (every (isEvent n) ls) e)))
+
+module _ (n : ℕ) (s : List ℕ) (vs : List ℤ) (e : eventsOf n s ≡ list vs) where
+  listed-are : (badLine n (eventPart s) ≡ 0) × (vs ≡ values (eventPart s))
+  unfolding badLine eventLines values flatMap lines endsInLF
+  listed-are = go (passed-or-failed (hasEvents s)) (passed-or-failed (eventsEnded s)) (lt-or-ge 0 (badLine n (eventPart s)))
+    where
+      go : (hasEvents s ≡ true) ⊎ (hasEvents s ≡ false) → (eventsEnded s ≡ true) ⊎ (eventsEnded s ≡ false) → (0 < badLine n (eventPart s)) ⊎ (badLine n (eventPart s) ≤ 0)
+          → (badLine n (eventPart s) ≡ 0) × (vs ≡ values (eventPart s))
+      go (inr h) g l = let q : list [] ≡ list vs = sym (events-none n s h) ∙ e in let v : vs ≡ [] = cc in rw (events-no-part s h, v) (refl, refl)
+      go (inl h) (inr g) l = absurd (let q : ragged (tableLines s + 1) ≡ list vs = sym (events-open n s h g) ∙ e in let z : _≡_ {A = ℕ} 0 1 = cc in omega arith)
+      go (inl h) (inl g) (inl l) =
+          absurd (let q : ragged (tableLines s + 1 + badLine n (eventPart s)) ≡ list vs = sym (events-ragged n s h g l) ∙ e in let z : _≡_ {A = ℕ} 0 1 = cc in omega arith)
+      go (inl h) (inl g) (inr l) = let q : list (values (eventPart s)) ≡ list vs = sym (events-listed n s h g l) ∙ e in (omega arith, cc)
+
+  -- the list is complete: n values for each line of events
+  pub values-complete : length vs ≡ length (lines (eventPart s)) * n
+  unfolding values
+  values-complete = rw (listed-are .1) (lines-values n (lines (eventPart s)) (none-bad n (eventPart s) (listed-are .0) .0))
+
+  -- a value takes two bytes at least: 65,536 bytes hold at most 32,768
+  pub values-few : 2 * length vs ≤ length s
+  unfolding values eventPart
+  values-few =
+      let b = none-bad n (eventPart s) (listed-are .0) in
+      let k = lines-bytes n (lines (eventPart s)) (b .0) in
+      omega (arith, ap length (listed-are .1), length-drop (tableEnd s + 7) s, k, all-bytes (b .1))
+    where
+      all-bytes : (lines (eventPart s) ≡ []) ⊎ (endsInLF (eventPart s) ≡ true) → length (unlines (lines (eventPart s))) ≤ length (eventPart s)
+      all-bytes (inl q) = rw q (omega arith)
+      all-bytes (inr q) = omega (arith, ap length (unlines-lines (eventPart s) q))
+
+-- so the answer is never Short where the list has room for half as many values as the input has bytes
+pub never-short : (n : ℕ) (s : List ℕ) (room : ℕ) → length s ≤ 2 * room → answerOf (eventsOf n s) room ≡ Short → ⊥
+never-short n s room h e = go (eventsOf n s) refl e
+  where
+    go : (r : Events) → eventsOf n s ≡ r → answerOf r room ≡ Short → ⊥
+    go (list vs) q f =
+        let l : length vs ≤ room = omega (arith, values-few n s vs q) in
+        let g : Values (length vs) ≡ Short = rw (le-leb (length vs) room l) at f in
+        let z : _≡_ {A = ℕ} 0 1 = cc in
+        omega arith
+    go (ragged line) q f = let z : _≡_ {A = ℕ} 0 1 = cc in omega arith
+
+-- ── What is kept of a number ──
+
+module _ (f : List ℕ) (h : isNumber f ≡ true) where
+  -- the value kept is on the scale of an event's values exactly where the number is
+  pub kept-on-scale : within (negsuc 65535) (pos 65535) (valueOf (readNumber f)) ≡ within (negsuc 65535) (pos 65535) (numberValue f)
+  kept-on-scale = rw (read-value f h) (within-event (numberValue f))
+
+  -- and is then the number
+  pub kept-is : within (negsuc 65535) (pos 65535) (numberValue f) ≡ true → valueOf (readNumber f) ≡ numberValue f
+  kept-is w = rw (read-value f h) (clamp-within (negsuc 65535) (pos 65535) (numberValue f) (omega arith) (omega arith) w)

@@ -1,0 +1,76 @@
+-- Worked examples of inputs and of printed lines.
+use mathlib.Core.Path.{_≡_, refl}
+use mathlib.Core.List.{List, [], _∷_, map, flatMap}
+use Prim.Native.Nat.{ℕ}
+use Prim.Native.String.{String}
+use lib.IntN.{pos, negsuc}
+use Rattle.text.specs.Bytes.{bytes, same}
+use Rattle.text.specs.Numbers.{isNegative, unsigned, isPositive, isNumber, numberValue, clamp, readNumber}
+use Rattle.text.specs.Lines.{fields, lines, endsInLF, lineStarts}
+use Rattle.text.specs.Output.{decimal}
+use Rattle.events.specs.Parting.{tableLines, tableEnd, hasEvents, tablePart, eventsEnded, eventPart}
+use Rattle.events.specs.Listing.{Events, list, ragged, isEvent, eventLines, badLine, lineValues, values, eventsOf}
+use Rattle.events.specs.Printing.{countLine, takenLine, spoiltLine, refusedLine}
+
+-- ── Inputs ──
+
+-- an input, its table part, and its events of n values
+record Example : Type 0 where
+  n : ℕ
+  input : String
+  table : String
+  events : Events
+
+abbrev example : ℕ → String → String → Events → Example
+example n input table events = record { n = n; input = input; table = table; events = events }
+
+abbrev examples : List Example
+examples =
+    -- 01's input
+    example 2
+    "dims\tFSC\tSSC\nrect\tLive\tRing\tFSC\t300\t600\nellip\tRing\t-\tFSC\tSSC\t400\t200\t40000\t0\t30625\t1\nquad\tQ\tRing\t1\tFSC\t1\t400\tLo\t0\tHi\t500\nand\tBoth\t-\tLive\t!Hi\nevents\n600\t200\n400\t375\n599\t200\n400\t376\n350\t200\n70000\t0\n"
+    "dims\tFSC\tSSC\nrect\tLive\tRing\tFSC\t300\t600\nellip\tRing\t-\tFSC\tSSC\t400\t200\t40000\t0\t30625\t1\nquad\tQ\tRing\t1\tFSC\t1\t400\tLo\t0\tHi\t500\nand\tBoth\t-\tLive\t!Hi\n"
+    (list (pos 600 ∷ pos 200 ∷ pos 400 ∷ pos 375 ∷ pos 599 ∷ pos 200 ∷ pos 400 ∷ pos 376 ∷ pos 350 ∷ pos 200 ∷ pos 70000 ∷ pos 0 ∷ []))
+    -- only the line that is exactly `events` parts the input
+    ∷ example 1 "dims\tA\nevents\r\nevents\t\n events\nevents\n1\n" "dims\tA\nevents\r\nevents\t\n events\n" (list (pos 1 ∷ []))
+    -- `events` as line 1: the table is empty
+    ∷ example 1 "events\n1\n" "" (list (pos 1 ∷ []))
+    -- `events` without LF
+    ∷ example 1 "events" "" (ragged 1)
+    ∷ example 1 "dims\tA\nevents" "dims\tA\n" (ragged 2)
+    -- no line `events`: all input is table, with or without a last LF
+    ∷ example 1 "" "" (list [])
+    ∷ example 1 "dims\tA\nrect" "dims\tA\nrect" (list [])
+    -- no events
+    ∷ example 1 "dims\tA\nevents\n" "dims\tA\n" (list [])
+    -- the lowest bad line: too many fields, too few, a field that is no number, no LF
+    ∷ example 1 "dims\tA\nevents\n1\n1\t2\nx\n" "dims\tA\n" (ragged 4)
+    ∷ example 2 "dims\tA\tB\nevents\n1\n" "dims\tA\tB\n" (ragged 3)
+    ∷ example 2 "dims\tA\tB\nevents\n1\t2\n3\t\n" "dims\tA\tB\n" (ragged 4)
+    ∷ example 1 "dims\tA\nevents\n0\n-65536\n-0\n1" "dims\tA\n" (ragged 5)
+    ∷ example 1 "dims\tA\nevents\n1\n2" "dims\tA\n" (ragged 4)
+    -- an empty line, also as the last
+    ∷ example 1 "dims\tA\nevents\n\n1\n" "dims\tA\n" (ragged 3)
+    ∷ example 1 "dims\tA\nevents\n1\n\n" "dims\tA\n" (ragged 4)
+    -- a second line `events`
+    ∷ example 1 "dims\tA\nevents\n1\nevents\n2\n" "dims\tA\n" (ragged 4)
+    -- numbers beyond 32 bits are kept off the scale; a bad form is bad at any length
+    ∷ example 1 "dims\tA\nevents\n4294967296\n-1234567890123456789012345678901234567890\n" "dims\tA\n" (list (pos 1073741824 ∷ negsuc 1073741823 ∷ []))
+    ∷ example 1 "dims\tA\nevents\n1234567890123456789012345678901234567890x\n" "dims\tA\n" (ragged 3)
+    ∷ []
+
+pub example-tables : map (λ e. tablePart (bytes (e .input))) examples ≡ map (λ e. bytes (e .table)) examples
+unfolding tablePart tableEnd tableLines lineStarts lines same
+example-tables = refl
+
+pub example-events : map (λ e. eventsOf (e .n) (bytes (e .input))) examples ≡ map (λ e. e .events) examples
+unfolding eventsOf hasEvents eventsEnded eventPart tableEnd tableLines badLine eventLines isEvent values lineValues flatMap lineStarts lines fields endsInLF same isNumber isPositive isNegative unsigned numberValue clamp readNumber
+example-events = refl
+
+-- ── Printed lines ──
+
+pub printed :
+    countLine (bytes "Live") 3 ∷ takenLine 5 ∷ spoiltLine 0 ∷ refusedLine 23 1107 ∷ []
+    ≡ map bytes ("Live\t3\n" ∷ "taken\t5\n" ∷ "spoilt\t0\n" ∷ "refused\t23\t1107\n" ∷ [])
+unfolding countLine takenLine spoiltLine refusedLine decimal
+printed = refl

@@ -1,0 +1,9 @@
+-- Laws of the definitions.
+pub mod WritingLaws
+pub mod SearchLaws
+pub mod PartingLaws
+pub mod ListingLaws
+pub mod AnswerLaws
+pub mod PrintingLaws
+pub mod EventTheorems
+pub mod Examples

@@ -1,0 +1,13 @@
+-- `value_of`: by cases on the number.
+use borrow.Author.Needs.{needs}
+use Rattle.events.proofs.listing.value_of.Statement.{statement}
+use Rattle.events.proofs.listing.value_of.Tie as tie
+
+returns : tie.Need-returns
+returns c = rw (c .enum-told .given .1)
+
+returns-2 : tie.Need-returns-2
+returns-2 c = rw (c .before .number .given .1) (search needs)
+
+pub value-of-spec : {M : Type 1} → statement M
+value-of-spec = tie.close (tie.spec (λ c. search needs) (λ c. search needs) returns returns-2)

@@ -1,0 +1,48 @@
+-- The input parted (01: "a table, the line `events`, then events"; "without the line `events` all input is table and no event follows").
+use Prim.Native.Nat.{ℕ, _+_}
+use mathlib.Core.Bool.{Bool}
+use mathlib.Core.List.{List}
+use lib.Dec.{ltb, eqb}
+use lib.ListN.{length, getD, take, drop}
+use Rattle.text.specs.Bytes.{bytes, same, before}
+use Rattle.text.specs.Lines.{lines, lineStarts}
+use Rattle.events.specs.declared.parting.Parted.{Parted}
+use Rattle.events.specs.declared.parting.Opening.{Opening}
+
+-- how many lines stand before the first that is exactly `events`: all, where there is none
+unfoldable pub tableLines : List ℕ → ℕ
+tableLines input = before (same (bytes "events")) (lines input)
+
+-- the line `events` is there
+unfoldable pub hasEvents : List ℕ → Bool
+hasEvents input = ltb (tableLines input) (length (lines input))
+
+-- the place where it begins, or the end of the input
+unfoldable pub tableEnd : List ℕ → ℕ
+tableEnd input = getD (lineStarts input) (tableLines input) (length input)
+
+-- table: the bytes before the line `events`, or all input
+unfoldable pub tablePart : List ℕ → List ℕ
+tablePart input = take (tableEnd input) input
+
+-- the line `events` ends in LF
+unfoldable pub eventsEnded : List ℕ → Bool
+eventsEnded input = eqb (getD input (tableEnd input + 6) 0) 10
+
+-- the events: the bytes behind the line `events` and its LF
+unfoldable pub eventPart : List ℕ → List ℕ
+eventPart input = drop (tableEnd input + 7) input
+
+-- what `split` answers; without the line `events`, start and line lie behind the end of the input and its last line
+unfoldable pub partedOf : List ℕ → Parted
+partedOf input = record {
+  table = tableEnd input;
+  found = hasEvents input;
+  ended = eventsEnded input;
+  start = tableEnd input + 7;
+  line = tableLines input + 1;
+}
+
+-- what the search for the line `events` answers
+unfoldable pub openingOf : List ℕ → Opening
+openingOf input = record { found = hasEvents input; at = tableEnd input; before = tableLines input }

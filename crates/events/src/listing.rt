@@ -1,0 +1,153 @@
+// The events of an input as a flat list of values.
+ghost use mathlib.Core.Path.{_≡_};
+ghost use Prim.Native.Nat.{_+_, _≤_};
+ghost use lib.ListN.{length, set, drop};
+ghost use Rattle.text.specs.Output.{over};
+ghost use Rattle.events.specs.Listing.{isEvent, badLine, valueOf, lineValues, values, eventsOf, answerOf, listed};
+ghost use Rattle.events.specs.Writing.{overFrom};
+use crate::parting::split;
+use crate::writing::least;
+use text::lines::ends_in_lf;
+use text::lines::field;
+use text::lines::field_count;
+use text::lines::find;
+use text::lines::line_from;
+use text::numbers::Number;
+use text::numbers::is_number;
+use text::numbers::read_number;
+
+// What reading the events answers.
+pub enum Answer {
+    // how many values there are
+    Values(usize),
+    // refusal 23 and its line
+    Ragged(usize),
+    // the slice lent has not room for all values
+    Short,
+}
+
+// Whether a line is an event of n values.
+fn is_event(line: &[u8], n: usize) -> bool
+    ensures { λ r. ⌜ r ≡ isEvent n (now (line .entry)) ⌝ }
+{
+    if field_count(line) != n {
+        return false;
+    }
+    let mut k = 0;
+    while k < n {
+        if !is_number(field(line, k)) {
+            return false;
+        }
+        k += 1;
+    }
+    true
+}
+
+// The lowest bad line of the event part, counted from 1 in it; 0 where there is none.
+fn bad_line(part: &[u8], n: usize) -> usize
+    ensures { λ r. ⌜ (r ≡ badLine n (now (part .entry))) × (r ≤ length (now (part .entry)) + 1) ⌝ }
+{
+    let mut at = 0;
+    let mut k: usize = 0;
+    while at < part.len() {
+        if !is_event(line_from(part, at), n) {
+            return k + 1;
+        }
+        at = find(part, at, b'\n') + 1;
+        k += 1;
+    }
+    if !ends_in_lf(part) {
+        return k;
+    }
+    0
+}
+
+// The value that is kept of a number.
+fn value_of(number: Number) -> i32
+    ensures { λ r. ⌜ r ≡ valueOf number ⌝ }
+{
+    match number {
+        Number::Bad => 0,
+        Number::Value(v) => v,
+    }
+}
+
+// Puts the value of a number at index i, where there is one.
+fn put_value(values: &mut [i32], i: usize, number: Number)
+    ensures { λ _. ⌜ now (values .exit) ≡ set (now (values .entry)) i (valueOf number) ⌝ }
+{
+    if i < values.len() {
+        values[i] = value_of(number);
+    }
+}
+
+// Writes the values of a line over the beginning of rest, as far as it goes, and answers how many there are.
+fn put_line(rest: &mut [i32], line: &[u8]) -> usize
+    ensures { λ r. ⌜ (r ≡ length (lineValues (now (line .entry)))) × (now (rest .exit) ≡ over (lineValues (now (line .entry))) (now (rest .entry))) ⌝ }
+{
+    let n = field_count(line);
+    let mut k = 0;
+    while k < n {
+        put_value(rest, k, read_number(field(line, k)));
+        k += 1;
+    }
+    k
+}
+
+// The same from index a on.
+fn put_line_from(values: &mut [i32], a: usize, line: &[u8]) -> usize
+    ensures { λ r. ⌜ (r ≡ length (lineValues (now (line .entry)))) × (now (values .exit) ≡ overFrom a (lineValues (now (line .entry))) (now (values .entry))) ⌝ }
+{
+    let b = least(a, values.len());
+    put_line(&mut values[b..], line)
+}
+
+// Writes the values of all lines over the beginning of list, as far as it goes, and answers how many there are.
+fn put_lines(list: &mut [i32], part: &[u8]) -> usize
+    ensures { λ r. ⌜ (r ≡ length (values (now (part .entry)))) × (now (list .exit) ≡ over (values (now (part .entry))) (now (list .entry))) ⌝ }
+{
+    let mut at = 0;
+    let mut m: usize = 0;
+    while at < part.len() {
+        let c = put_line_from(list, m, line_from(part, at));
+        at = find(part, at, b'\n') + 1;
+        m += c;
+    }
+    m
+}
+
+// What stands from place a on.
+fn rest_from(s: &[u8], a: usize) -> &[u8]
+    ensures { λ r. ⌜ now r ≡ drop a (now (s .entry)) ⌝ }
+{
+    let b = least(a, s.len());
+    &s[b..]
+}
+
+// Reads the events of n values that the input has into list. A list of half as many values as the input has bytes is never too
+// short (the theorem never-short).
+pub fn read_events(input: &[u8], n: usize, list: &mut [i32]) -> Answer
+    ensures { λ r. ⌜ (r ≡ answerOf (eventsOf n (now (input .entry))) (length (now (list .entry)))) × (now (list .exit) ≡ over (listed (eventsOf n (now (input .entry)))) (now (list .entry))) ⌝ }
+{
+    let s = split(input);
+    let found = s.found;
+    if !found {
+        return Answer::Values(0);
+    }
+    let ended = s.ended;
+    let line = s.line;
+    if !ended {
+        return Answer::Ragged(line);
+    }
+    let start = s.start;
+    let part = rest_from(input, start);
+    let bad = bad_line(part, n);
+    if 0 < bad {
+        return Answer::Ragged(line + bad);
+    }
+    let m = put_lines(list, part);
+    if list.len() < m {
+        return Answer::Short;
+    }
+    Answer::Values(m)
+}
