@@ -1,0 +1,18 @@
+use borrow.Author.Needs.{needs}
+use Rattle.gatefields.proofs.fields.value_in.Statement.{statement}
+use Rattle.gatefields.proofs.fields.value_in.Tie as tie
+
+returns : tie.Need-returns
+returns c = rw (c .enum-told .given .1) (search needs)
+
+returns-2 : tie.Need-returns-2
+returns-2 c = rw (c .before .n .given .1) (search needs)
+
+pub value-in-spec : {M : Type 1} → statement M
+value-in-spec =
+    tie.close
+    (tie.spec
+    (λ c. search needs)
+    (λ c. search needs)
+    returns
+    returns-2)

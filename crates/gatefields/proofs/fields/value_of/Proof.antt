@@ -1,0 +1,18 @@
+use mir.Syntax.{w32}
+use mir.ValLaws.{toZ-ofZ}
+use Rattle.gates.specs.Kinds.{valueOf}
+use borrow.Author.Needs.{needs}
+use Rattle.gatefields.proofs.fields.value_of.Statement.{statement}
+use Rattle.gatefields.proofs.fields.value_of.Tie as tie
+
+returns : tie.Need-returns
+unfolding valueOf
+returns c = rw (toZ-ofZ w32 _ (record { sfits = c .value-in .ok }), c .value-in .ensures, c .before .read-number .ensures)
+
+pub value-of-spec : {M : Type 1} → statement M
+value-of-spec =
+    tie.close
+    (tie.spec
+    (λ c κs. search needs)
+    (λ c κs. search needs)
+    returns)

@@ -1,0 +1,21 @@
+use Rattle.gates.specs.Quads.{layoutGood}
+use borrow.Author.Needs.{needs}
+use Rattle.gatefields.proofs.quads.layout_good.Statement.{statement}
+use Rattle.gatefields.proofs.quads.layout_good.Tie as tie
+
+returns : tie.Need-returns
+unfolding layoutGood
+returns c = rw (c .minus .ensures, c .before .counts-good .ensures, c .before .before .field-count .ensures, c .before .before .before .quadrants-at .ensures .0, c .before .before .before .before .divider-count .ensures .0)
+
+pub layout-good-spec : {M : Type 1} → statement M
+layout-good-spec =
+    tie.close
+    (tie.spec
+    (λ c κs. search needs)
+    (λ c κs. search needs)
+    (λ c κs. search needs)
+    (λ c κs. search needs)
+    (λ c κs. search needs)
+    (λ c. search needs)
+    (λ c. search needs)
+    returns)

@@ -1,0 +1,170 @@
+// What a line's single fields say.
+ghost use mathlib.Core.Path.{_≡_};
+ghost use mathlib.Core.Bool.{cond};
+ghost use Prim.Native.Nat.{_-_, min};
+ghost use lib.ListN.{length, drop};
+ghost use Rattle.text.specs.Lines.{fields};
+ghost use Rattle.gates.specs.Kinds.{kindOf, lineKind, isUnknown, isQuad, isStar, isNone, isParent, isComplement, operandName, isOperand, dimensionOf, valueIn, valueOf};
+use gates::LineKind;
+use text::lines::field;
+use text::lines::field_count;
+use text::lines::find_field;
+use text::names::is_name;
+use text::names::same;
+use text::numbers::Number;
+use text::numbers::read_number;
+
+pub fn pick(b: bool, x: usize, y: usize) -> usize
+    ensures { λ r. ⌜ r ≡ cond b x y ⌝ }
+{
+    if b { x } else { y }
+}
+
+pub fn lesser(x: usize, y: usize) -> usize
+    ensures { λ r. ⌜ r ≡ min x y ⌝ }
+{
+    if x < y { x } else { y }
+}
+
+pub fn minus(x: usize, y: usize) -> usize
+    ensures { λ r. ⌜ r ≡ x - y ⌝ }
+{
+    if x < y { 0 } else { x - y }
+}
+
+fn kind_named(x: &[u8]) -> LineKind
+    ensures { λ r. ⌜ r ≡ kindOf (now (x .entry)) ⌝ }
+{
+    if same(x, b"rect") {
+        return LineKind::Rect;
+    }
+    if same(x, b"poly") {
+        return LineKind::Poly;
+    }
+    if same(x, b"ellip") {
+        return LineKind::Ellip;
+    }
+    if same(x, b"quad") {
+        return LineKind::Quad;
+    }
+    if same(x, b"and") {
+        return LineKind::And;
+    }
+    if same(x, b"or") {
+        return LineKind::Or;
+    }
+    if same(x, b"not") {
+        return LineKind::Not;
+    }
+    LineKind::Unknown
+}
+
+// The kind of a line.
+pub fn kind_of(line: &[u8]) -> LineKind
+    ensures { λ r. ⌜ r ≡ lineKind (fields (now (line .entry))) ⌝ }
+{
+    kind_named(field(line, 0))
+}
+
+pub fn is_unknown(kind: LineKind) -> bool
+    ensures { λ r. ⌜ r ≡ isUnknown kind ⌝ }
+{
+    match kind {
+        LineKind::Rect => false,
+        LineKind::Poly => false,
+        LineKind::Ellip => false,
+        LineKind::Quad => false,
+        LineKind::And => false,
+        LineKind::Or => false,
+        LineKind::Not => false,
+        LineKind::Unknown => true,
+    }
+}
+
+pub fn is_quad(kind: LineKind) -> bool
+    ensures { λ r. ⌜ r ≡ isQuad kind ⌝ }
+{
+    match kind {
+        LineKind::Rect => false,
+        LineKind::Poly => false,
+        LineKind::Ellip => false,
+        LineKind::Quad => true,
+        LineKind::And => false,
+        LineKind::Or => false,
+        LineKind::Not => false,
+        LineKind::Unknown => false,
+    }
+}
+
+pub fn is_star(x: &[u8]) -> bool
+    ensures { λ r. ⌜ r ≡ isStar (now (x .entry)) ⌝ }
+{
+    same(x, b"*")
+}
+
+// Whether x is the parent field of a gate with no parent.
+pub fn is_none(x: &[u8]) -> bool
+    ensures { λ r. ⌜ r ≡ isNone (now (x .entry)) ⌝ }
+{
+    same(x, b"-")
+}
+
+pub fn is_parent(x: &[u8]) -> bool
+    ensures { λ r. ⌜ r ≡ isParent (now (x .entry)) ⌝ }
+{
+    is_name(x) | is_none(x)
+}
+
+// Whether `!` stands before an operand's name.
+pub fn is_complement(x: &[u8]) -> bool
+    ensures { λ r. ⌜ r ≡ isComplement (now (x .entry)) ⌝ }
+{
+    if x.len() == 0 {
+        return false;
+    }
+    x[0] == 33
+}
+
+pub fn operand_name(x: &[u8]) -> &[u8]
+    ensures { λ r. ⌜ now r ≡ operandName (now (x .entry)) ⌝ }
+{
+    if is_complement(x) {
+        return &x[1..];
+    }
+    x
+}
+
+pub fn is_operand(x: &[u8]) -> bool
+    ensures { λ r. ⌜ r ≡ isOperand (now (x .entry)) ⌝ }
+{
+    is_name(operand_name(x))
+}
+
+fn value_in(n: Number) -> i32
+    ensures { λ r. ⌜ r ≡ valueIn n ⌝ }
+{
+    match n {
+        Number::Bad => 0,
+        Number::Value(v) => v,
+    }
+}
+
+pub fn value_of(x: &[u8]) -> i32
+    ensures { λ r. ⌜ r ≡ valueOf (now (x .entry)) ⌝ }
+{
+    value_in(read_number(x))
+}
+
+// How many names the head line has.
+pub fn name_count(head: &[u8]) -> usize
+    ensures { λ r. ⌜ r ≡ length (drop 1 (fields (now (head .entry)))) ⌝ }
+{
+    minus(field_count(head), 1)
+}
+
+// The number of a dimension.
+pub fn dimension_of(head: &[u8], x: &[u8]) -> usize
+    ensures { λ r. ⌜ r ≡ dimensionOf (drop 1 (fields (now (head .entry)))) (now (x .entry)) ⌝ }
+{
+    minus(find_field(head, 1, x), 1)
+}

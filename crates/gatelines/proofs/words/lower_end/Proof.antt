@@ -1,0 +1,24 @@
+use mir.Syntax.{w32}
+use mir.ValLaws.{toZ-ofZ}
+use borrow.Author.Tests.{eq-eqb, ne-eqb}
+use Rattle.gates.specs.Meaning.{lowerEnd}
+use borrow.Author.Needs.{needs}
+use Rattle.gatelines.proofs.words.lower_end.Statement.{statement}
+use Rattle.gatelines.proofs.words.lower_end.Tie as tie
+
+returns : tie.Need-returns
+unfolding lowerEnd
+returns c = rw (eq-eqb (c .before .before .args .k) 0 (c .if1 .taken))
+
+returns-2 : tie.Need-returns-2
+unfolding lowerEnd
+returns-2 c = rw (ne-eqb (c .before .before .before .args .k) 0 (c .before .if1 .left), toZ-ofZ w32 _ (record { sfits = c .divider-value .ok }), c .divider-value .ensures)
+
+pub lower-end-spec : {M : Type 1} → statement M
+lower-end-spec =
+    tie.close
+    (tie.spec
+    returns
+    (λ c. search needs)
+    (λ c κs. search needs)
+    returns-2)

@@ -1,0 +1,23 @@
+use mir.Syntax.{w32}
+use mir.ValLaws.{toZ-ofZ}
+use Rattle.gates.specs.Meaning.{minWord}
+use borrow.Author.Needs.{needs}
+use Rattle.gatelines.proofs.words.min_word.Statement.{statement}
+use Rattle.gatelines.proofs.words.min_word.Tie as tie
+
+returns : tie.Need-returns
+unfolding minWord
+returns c = rw (← c .before .is-star .ensures, c .if1 .taken)
+
+returns-2 : tie.Need-returns-2
+unfolding minWord
+returns-2 c = rw (toZ-ofZ w32 _ (record { sfits = c .value-of .ok }), c .value-of .ensures, ← c .before .before .is-star .ensures, c .before .if1 .left)
+
+pub min-word-spec : {M : Type 1} → statement M
+min-word-spec =
+    tie.close
+    (tie.spec
+    (λ c κs. search needs)
+    returns
+    (λ c κs. search needs)
+    returns-2)

@@ -1,0 +1,36 @@
+use mir.Syntax.{w32}
+use mir.ValLaws.{toZ-ofZ}
+use native.Mathlib.Omega.{arith}
+use Rattle.text.specs.Lines.{fields}
+use Rattle.gates.specs.Kinds.{fieldAt}
+use Rattle.gates.specs.Meaning.{quadrantMax}
+use Rattle.gates.proofs.QuadLaws.{count-small}
+use borrow.Author.Needs.{needs}
+use Rattle.gatelines.proofs.words.quadrant_max.Statement.{statement}
+use Rattle.gatelines.proofs.words.quadrant_max.Tie as tie
+
+returns : tie.Need-returns
+unfolding quadrantMax
+returns c = rw (← c .before .before .representative .ensures, ← c .before .is-star .ensures, c .if1 .taken)
+
+interval-requires : tie.Need-interval-requires
+interval-requires c κs = omega (arith, c .before .before .before .before .before .pre .1, count-small (fieldAt (fields (c .before .before .before .before .before .args .line .now)) 3))
+
+upper-end-requires : tie.Need-upper-end-requires
+upper-end-requires c κs = (omega (arith, c .before .before .before .before .before .before .pre .1, count-small (fieldAt (fields (c .before .before .before .before .before .before .args .line .now)) 3)), c .interval .ensures .1)
+
+returns-2 : tie.Need-returns-2
+unfolding quadrantMax
+returns-2 c = rw (← c .before .before .before .before .before .representative .ensures, ← c .before .before .before .before .is-star .ensures, c .before .before .before .if1 .left, toZ-ofZ w32 _ (record { sfits = c .upper-end .ok }), c .upper-end .ensures, c .before .interval .ensures .0, toZ-ofZ w32 _ (record { sfits = c .before .before .value-of .ok }), c .before .before .value-of .ensures)
+
+pub quadrant-max-spec : {M : Type 1} → statement M
+quadrant-max-spec =
+    tie.close
+    (tie.spec
+    (λ c κs. search needs)
+    (λ c κs. search needs)
+    returns
+    (λ c κs. search needs)
+    interval-requires
+    upper-end-requires
+    returns-2)

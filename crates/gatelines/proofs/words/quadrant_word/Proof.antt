@@ -1,0 +1,38 @@
+use mir.Syntax.{w32}
+use mir.ValLaws.{toZ-ofZ}
+use native.Mathlib.Omega.{arith}
+use mathlib.Core.Path.{_≡_}
+use Prim.Native.Nat.{_/_, _%_, min}
+use borrow.Author.Tests.{eq-eqb, ne-eqb}
+use Rattle.text.specs.Lines.{fields}
+use Rattle.gates.specs.Kinds.{fieldAt}
+use Rattle.gates.specs.Meaning.{quadrantWord}
+use Rattle.gates.proofs.QuadLaws.{count-small}
+use borrow.Author.Needs.{needs}
+use Rattle.gatelines.proofs.words.quadrant_word.Statement.{statement}
+use Rattle.gatelines.proofs.words.quadrant_word.Tie as tie
+
+returns : tie.Need-returns
+unfolding quadrantWord
+returns c = let e : min (c .before .before .before .before .before .before .args .i / 3) 3 ≡ c .before .before .before .before .before .before .args .i / 3 = omega (arith, c .before .before .before .before .before .before .pre .2, count-small (fieldAt (fields (c .before .before .before .before .before .before .args .line .now)) 3)) in rw (eq-eqb (c .before .before .before .before .before .before .args .i % 3) 0 (c .before .before .before .if1 .taken), toZ-ofZ w32 _ (record { sfits = c .dimension-word .ok }), c .dimension-word .ensures, c .before .field .ensures, c .before .before .divider-at .ensures .0, e)
+
+returns-2 : tie.Need-returns-2
+unfolding quadrantWord
+returns-2 c = rw (ne-eqb (c .before .before .before .before .before .args .i % 3) 0 (c .before .before .if1 .left), eq-eqb (c .before .before .before .before .before .args .i % 3) 1 (c .before .if2 .taken), toZ-ofZ w32 _ (record { sfits = c .quadrant-min .ok }), c .quadrant-min .ensures)
+
+returns-3 : tie.Need-returns-3
+unfolding quadrantWord
+returns-3 c = rw (ne-eqb (c .before .before .before .before .before .args .i % 3) 0 (c .before .before .if1 .left), ne-eqb (c .before .before .before .before .before .args .i % 3) 1 (c .before .if2 .left), toZ-ofZ w32 _ (record { sfits = c .quadrant-max .ok }), c .quadrant-max .ensures)
+
+pub quadrant-word-spec : {M : Type 1} → statement M
+quadrant-word-spec =
+    tie.close
+    (tie.spec
+    (λ c κs. search needs)
+    (λ c κs. search needs)
+    (λ c κs. search needs)
+    returns
+    (λ c κs. search needs)
+    returns-2
+    (λ c κs. search needs)
+    returns-3)

@@ -1,0 +1,29 @@
+use mir.Syntax.{w32}
+use mir.ValLaws.{toZ-ofZ}
+use native.Mathlib.Omega.{arith}
+use mathlib.Core.Path.{_≡_, ap, _∙_}
+use Prim.Native.Nat.{min}
+use borrow.Author.Tests.{eq-eqb, ne-eqb}
+use Rattle.text.specs.Lines.{fields}
+use Rattle.gates.specs.Quads.{valueCount}
+use Rattle.gates.specs.Meaning.{upperEnd}
+use borrow.Author.Needs.{needs}
+use Rattle.gatelines.proofs.words.upper_end.Statement.{statement}
+use Rattle.gatelines.proofs.words.upper_end.Tie as tie
+
+returns : tie.Need-returns
+unfolding upperEnd
+returns c = let f = fields (c .before .before .before .args .line .now) in let e : min (c .before .before .before .args .t) 3 ≡ c .before .before .before .args .t = omega arith in let v : c .before .value-count .result ≡ valueCount f (c .before .before .before .args .t) = c .before .value-count .ensures .0 ∙ ap (valueCount f) e in rw (← v, eq-eqb (c .before .before .before .args .k) (c .before .value-count .result) (c .if1 .taken))
+
+returns-2 : tie.Need-returns-2
+unfolding upperEnd
+returns-2 c = let f = fields (c .before .before .before .before .args .line .now) in let e : min (c .before .before .before .before .args .t) 3 ≡ c .before .before .before .before .args .t = omega arith in let v : c .before .before .value-count .result ≡ valueCount f (c .before .before .before .before .args .t) = c .before .before .value-count .ensures .0 ∙ ap (valueCount f) e in rw (← v, ne-eqb (c .before .before .before .before .args .k) (c .before .before .value-count .result) (c .before .if1 .left), toZ-ofZ w32 _ (record { sfits = c .divider-value .ok }), c .divider-value .ensures)
+
+pub upper-end-spec : {M : Type 1} → statement M
+upper-end-spec =
+    tie.close
+    (tie.spec
+    (λ c κs. search needs)
+    returns
+    (λ c κs. search needs)
+    returns-2)

@@ -1,0 +1,132 @@
+// The words of a box, a polygon or an ellipse.
+ghost use mathlib.Core.Path.{_≡_};
+ghost use Prim.Native.Nat.{_+_, _-_, _*_, _<_, _≤_};
+ghost use lib.IntN.{pos};
+ghost use lib.ListN.{length, drop};
+ghost use Rattle.text.specs.Lines.{fields};
+ghost use Rattle.gates.specs.Kinds.{dimensionOf};
+ghost use Rattle.gates.specs.Quads.{dividerCount, quadrantCount};
+ghost use Rattle.gates.specs.Meaning.{minWord, maxWord, ruleWord, lineWord, lowerEnd, upperEnd, quadrantMin, quadrantMax, quadrantWord};
+use crate::tiling::divider_value;
+use crate::tiling::interval;
+use crate::tiling::representative;
+use gatefields::fields::dimension_of;
+use gatefields::fields::is_star;
+use gatefields::fields::value_of;
+use gatefields::quads::divider_at;
+use gatefields::quads::value_count;
+use gaterules::rule_of;
+use gates::LineKind;
+use gates::Rule;
+use text::lines::field;
+
+fn dimension_word(head: &[u8], x: &[u8]) -> i32
+    requires { ⌜ length (drop 1 (fields (now head))) ≤ 8 ⌝ }
+    ensures { λ r. ⌜ r ≡ pos (dimensionOf (drop 1 (fields (now (head .entry)))) (now (x .entry))) ⌝ }
+{
+    dimension_of(head, x) as i32
+}
+
+fn min_word(x: &[u8]) -> i32
+    ensures { λ r. ⌜ r ≡ minWord (now (x .entry)) ⌝ }
+{
+    if is_star(x) {
+        return -65536;
+    }
+    value_of(x)
+}
+
+fn max_word(x: &[u8]) -> i32
+    ensures { λ r. ⌜ r ≡ maxWord (now (x .entry)) ⌝ }
+{
+    if is_star(x) {
+        return 65536;
+    }
+    value_of(x)
+}
+
+fn rule_word(head: &[u8], rule: Rule, x: &[u8]) -> i32
+    requires { ⌜ length (drop 1 (fields (now head))) ≤ 8 ⌝ }
+    ensures { λ r. ⌜ r ≡ ruleWord (drop 1 (fields (now (head .entry)))) rule (now (x .entry)) ⌝ }
+{
+    match rule {
+        Rule::Free => 0,
+        Rule::Name => 0,
+        Rule::Parent => 0,
+        Rule::Operand => 0,
+        Rule::Dimension => dimension_word(head, x),
+        Rule::Coordinate => value_of(x),
+        Rule::Entry => value_of(x),
+        Rule::Distance => value_of(x),
+        Rule::Min => min_word(x),
+        Rule::Max => max_word(x),
+        Rule::Value => value_of(x),
+        Rule::Rising => value_of(x),
+        Rule::Representative => value_of(x),
+    }
+}
+
+// Word i of the body of a rect, poly or ellip line.
+pub fn line_word(head: &[u8], kind: LineKind, line: &[u8], i: usize) -> i32
+    requires { ⌜ (length (drop 1 (fields (now head))) ≤ 8) × (i < length (fields (now line)) - 3) ⌝ }
+    ensures { λ r. ⌜ r ≡ lineWord (drop 1 (fields (now (head .entry)))) kind (fields (now (line .entry))) i ⌝ }
+{
+    rule_word(head, rule_of(kind, line, 3 + i), field(line, 3 + i))
+}
+
+fn lower_end(line: &[u8], t: usize, k: usize) -> i32
+    requires { ⌜ (t ≤ 3) × (k ≤ 3) ⌝ }
+    ensures { λ r. ⌜ r ≡ lowerEnd (fields (now (line .entry))) t k ⌝ }
+{
+    if k == 0 {
+        return -65536;
+    }
+    divider_value(line, t, k - 1)
+}
+
+fn upper_end(line: &[u8], t: usize, k: usize) -> i32
+    requires { ⌜ (t ≤ 3) × (k ≤ 3) ⌝ }
+    ensures { λ r. ⌜ r ≡ upperEnd (fields (now (line .entry))) t k ⌝ }
+{
+    if k == value_count(line, t) {
+        return 65536;
+    }
+    divider_value(line, t, k)
+}
+
+fn quadrant_min(line: &[u8], q: usize, t: usize) -> i32
+    requires { ⌜ (q < quadrantCount (fields (now line))) × (t < dividerCount (fields (now line))) ⌝ }
+    ensures { λ r. ⌜ r ≡ quadrantMin (fields (now (line .entry))) q t ⌝ }
+{
+    let x = representative(line, q, t);
+    if is_star(x) {
+        return -65536;
+    }
+    lower_end(line, t, interval(line, t, value_of(x)))
+}
+
+fn quadrant_max(line: &[u8], q: usize, t: usize) -> i32
+    requires { ⌜ (q < quadrantCount (fields (now line))) × (t < dividerCount (fields (now line))) ⌝ }
+    ensures { λ r. ⌜ r ≡ quadrantMax (fields (now (line .entry))) q t ⌝ }
+{
+    let x = representative(line, q, t);
+    if is_star(x) {
+        return 65536;
+    }
+    upper_end(line, t, interval(line, t, value_of(x)))
+}
+
+// Word i of the box of quadrant q.
+pub fn quadrant_word(head: &[u8], line: &[u8], q: usize, i: usize) -> i32
+    requires { ⌜ (length (drop 1 (fields (now head))) ≤ 8) × (q < quadrantCount (fields (now line))) × (i < 3 * dividerCount (fields (now line))) ⌝ }
+    ensures { λ r. ⌜ r ≡ quadrantWord (drop 1 (fields (now (head .entry)))) (fields (now (line .entry))) q i ⌝ }
+{
+    let t = i / 3;
+    if i % 3 == 0 {
+        return dimension_word(head, field(line, divider_at(line, t)));
+    }
+    if i % 3 == 1 {
+        return quadrant_min(line, q, t);
+    }
+    quadrant_max(line, q, t)
+}
