@@ -1,0 +1,22 @@
+-- The laws of tables, and demand 3.
+pub mod ListLaws
+pub mod NameLaws
+pub mod ReachingLaws
+pub mod SumLaws
+pub mod OrderLaws
+pub mod MemberLaws
+pub mod GateLaws
+pub mod TextLaws
+pub mod StepLaws
+pub mod PlanPasses
+pub mod PlanMembers
+pub mod RegionLaws
+pub mod RuleLaws
+pub mod Acceptance
+pub mod ReorderLaws
+pub mod MemberTheorems
+pub mod CountLaws
+pub mod CompileLaws
+pub mod LoopLaws
+pub mod Examples
+pub mod Demand

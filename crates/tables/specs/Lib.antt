@@ -1,0 +1,9 @@
+-- What a table is and means: its lines, the rules, members, the order of steps, the plan's words, refusals 1 to 18, and compiling.
+pub mod Table
+pub mod Head
+pub mod Reaching
+pub mod Rules
+pub mod Members
+pub mod Steps
+pub mod Refusals
+pub mod Compile

@@ -1,0 +1,49 @@
+-- Members of a region, from a table's own gates.
+use mathlib.Core.Path.{_≡_}
+use mathlib.Core.Bool.{Bool, true, false, not, _&&_, cond}
+use mathlib.Core.Option.{Option, none, some}
+use mathlib.Core.List.{List}
+use Prim.Native.Nat.{ℕ, zero, suc}
+use lib.ListN.{length}
+use Rattle.counter.specs.Judging.{taken}
+use Rattle.text.specs.Bytes.{same, every}
+use Rattle.gates.specs.Gate.{Name, Event, Operand, Shape, leaf, and-of, or-of, not-of, Gate, Region, regions}
+use Rattle.tables.specs.Table.{_∈_, someOf}
+
+-- ---- an event that is taken, given of which names it is a member
+
+module _ (m : Name → Bool) where
+  -- `!` takes the events taken that are not members
+  abbrev pub inOperand : Operand → Bool
+  inOperand o = cond (o .complement) (not (m (o .name))) (m (o .name))
+
+  abbrev pub inShape : Event → Shape → Bool
+  inShape e (leaf l) = l .holds e
+  inShape e (and-of os) = every inOperand os
+  inShape e (or-of os) = someOf inOperand os
+  inShape e (not-of o) = not (inOperand o)
+
+  abbrev pub inParent : Option Name → Bool
+  inParent none = true
+  inParent (some n) = m n
+
+  -- in the shape and, where there is a parent, in the parent
+  abbrev pub value : Event → Region → Bool
+  value e r = inShape e (r .shape) && inParent (r .parent)
+
+-- 01's equations, one for each region
+abbrev pub Obeys : List Region → Event → (Name → Bool) → Type 0
+Obeys rs e m = (r : Region) → r ∈ rs → m (r .name) ≡ value m e r
+
+-- ---- the members: as many rounds of the equations as there are regions; `member-obeys` and `member-only` in proofs/ say that they obey them, and nothing else does
+
+abbrev pub round : List Region → Event → (Name → Bool) → Name → Bool
+round rs e m n = someOf (λ (r : Region). same n (r .name) && value m e r) rs
+
+abbrev pub rounds : ℕ → List Region → Event → Name → Bool
+rounds zero rs e n = false
+rounds (suc k) rs e n = round rs e (rounds k rs e) n
+
+-- the event is a member of the region of that name; an event that is spoilt is a member of nothing
+unfoldable pub member : List Gate → Event → Name → Bool
+member t e n = taken e && rounds (length (regions t)) (regions t) e n

@@ -1,0 +1,42 @@
+-- What a gate refers to and reaches, and the bounded test for it.
+use mathlib.Core.Path.{_≡_}
+use mathlib.Core.Bool.{Bool, true, _&&_, _||_}
+use mathlib.Core.List.{List}
+use Prim.Native.Nat.{ℕ, zero, suc}
+use lib.ListN.{length}
+use Rattle.text.specs.Bytes.{same}
+use Rattle.gates.specs.Gate.{Name, Gate, gateRegions}
+use Rattle.tables.specs.Table.{_∈_, someOf, nthGate, names, gateReferences}
+
+-- ---- referring
+
+-- the name is in the list
+unfoldable pub isIn : List Name → Name → Bool
+isIn l n = someOf (same n) l
+
+-- g refers to h: it names a region of h; whoever names a quadrant refers to its gate
+unfoldable pub refersTo : Gate → Gate → Bool
+refersTo g h = someOf (isIn (names (gateRegions h))) (gateReferences g)
+
+abbrev pub Refers : List Gate → Gate → Gate → Type 0
+Refers t g h = (h ∈ t) × (refersTo g h ≡ true)
+
+-- ---- reaching: a gate reaches what it refers to, and what that reaches
+
+pub data Reaches {A : Type 0} (E : A → A → Type 0) : A → A → Type 0 where
+  refers : {a b : A} → E a b → Reaches E a b
+  refers-on : {a b c : A} → E a b → Reaches E b c → Reaches E a c
+
+-- ---- the test, over gates by number
+
+unfoldable pub refersAt : List Gate → ℕ → ℕ → Bool
+refersAt t i j = refersTo (nthGate t i) (nthGate t j)
+
+-- a reaches b by way of numbers below s; a loop over s from 0 that puts row s into each row with bit s keeps these as its rows (`row-next` in proofs/)
+unfoldable pub reachesBy : (ℕ → ℕ → Bool) → ℕ → ℕ → ℕ → Bool
+reachesBy edge zero a b = edge a b
+reachesBy edge (suc s) a b = reachesBy edge s a b || (reachesBy edge s a s && reachesBy edge s s b)
+
+-- gate i reaches itself
+unfoldable pub reachesItself : List Gate → ℕ → Bool
+reachesItself t i = reachesBy (refersAt t) (length t) i i
