@@ -1,7 +1,7 @@
 #!/usr/bin/env python3
 """Compares a real gate counter with the reference, which was written apart from it.
 
-    tests/compare.py --gatecount PATH [--plans PATH] [--seed S] [--inputs N] [--keep FOLDER]
+    tests/compare.py --gatecount PATH [--plans PATH] [--questions WORDS] [--seed S] [--inputs N] [--keep FOLDER]
     tests/compare.py --plant FAULT ...      with a fault planted in the reference
     tests/compare.py --mutations ...        each planted fault in turn: all must be seen
 
@@ -16,7 +16,7 @@ What is compared:
 * In what the real program prints, the counts of a quadrant gate's quadrants must add up
   to the count of its parent, or to the taken when it has none.
 * Each of N generated questions goes to the executable at --plans, and its answer must
-  be the reference's, word for word.
+  be the reference's, word for word; --questions picks those of some words only.
 
 The exit status is 0 when nothing differs; the last line is "N passed, M failed".
 
@@ -265,12 +265,13 @@ class Comparison:
 
     def some_questions(self, numbers):
         asked = [generate.request(self.options.seed, number) for number in numbers]
+        asked = [(label, question) for label, question in asked if question[0] in self.options.questions]
         lines = [question_line(question) for _, question in asked]
         answers = ask(self.options.plans, lines)
-        for number, (label, question), line, actual in zip(numbers, asked, lines, answers):
+        for (label, question), line, actual in zip(asked, lines, answers):
             expected = self.reference(reference_answer, question)
             self.questions[question[0], int(expected.split(b' ')[0])] += 1
-            self.note(actual == expected, 'question %d (%s)' % (number, label), line + b'\n', expected, actual)
+            self.note(actual == expected, 'question %s (%s)' % (question[0], label), line + b'\n', expected, actual)
 
     def run(self):
         options = self.options
@@ -313,6 +314,7 @@ def mutations(options):
         inputs = [(each, run(options.gatecount, each)) for each in data]
     if options.plans:
         asked = [generate.request(options.seed, number)[1] for number in range(options.inputs)]
+        asked = [question for question in asked if question[0] in options.questions]
         for start in range(0, len(asked), BATCH):
             some = asked[start:start + BATCH]
             questions += zip(some, ask(options.plans, [question_line(each) for each in some]))
@@ -353,6 +355,8 @@ def main():
     parser = argparse.ArgumentParser(description='Compare a gate counter with the reference.')
     parser.add_argument('--gatecount', type=command, metavar='PATH')
     parser.add_argument('--plans', type=command, metavar='PATH')
+    parser.add_argument('--questions', type=lambda words: words.split(','), metavar='WORDS',
+                        default=['check', 'judge', 'count', 'compile'], help='which of check,judge,count,compile are asked')
     parser.add_argument('--seed', default='1')
     parser.add_argument('--inputs', type=int, default=3000, metavar='N')
     parser.add_argument('--orders', type=int, default=3, metavar='K', help='other orders of a table at most')
