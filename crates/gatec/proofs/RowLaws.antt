@@ -13,13 +13,6 @@ two-set (x ∷ []) a b h = absurd (omega arith)
 two-set (x ∷ y ∷ []) a b h = refl
 two-set (x ∷ y ∷ z ∷ o) a b h = absurd (omega arith)
 
-pub three-set : (o : List ℕ) (a b c : ℕ) → length o ≡ 3 → set (set (set o 0 a) 1 b) 2 c ≡ a ∷ b ∷ c ∷ []
-three-set [] a b c h = absurd (omega arith)
-three-set (x ∷ []) a b c h = absurd (omega arith)
-three-set (x ∷ y ∷ []) a b c h = absurd (omega arith)
-three-set (x ∷ y ∷ z ∷ []) a b c h = refl
-three-set (x ∷ y ∷ z ∷ w ∷ o) a b c h = absurd (omega arith)
-
 pub four-set : (o : List ℕ) (a b c d : ℕ) → 4 ≤ length o → take 4 (set (set (set (set o 0 a) 1 b) 2 c) 3 d) ≡ a ∷ b ∷ c ∷ d ∷ []
 four-set [] a b c d h = absurd (omega arith)
 four-set (x ∷ []) a b c d h = absurd (omega arith)

@@ -1,0 +1,12 @@
+-- `is_within`.
+use mathlib.Core.Path.{refl}
+use Rattle.graph.specs.Rows.{within}
+use Rattle.graph.proofs.is_within.Statement.{statement}
+use Rattle.graph.proofs.is_within.Tie as tie
+
+returns : tie.Need-returns
+unfolding within
+returns c = refl
+
+pub is-within-spec : {M : Type 1} → statement M
+is-within-spec = tie.close (tie.spec returns)

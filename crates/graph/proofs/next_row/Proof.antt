@@ -1,0 +1,60 @@
+-- `next_row`: the first that is not held is the first from r on.
+use borrow.Author.Needs.{needs}
+use Rattle.graph.proofs.RowLaws.{held-not, held-still}
+use Rattle.graph.specs.Rows.{held}
+use Rattle.plans.proofs.IndexLaws.{first-more, first-stop, first-end}
+use Rattle.plans.specs.Indices.{firstBad}
+use native.Mathlib.Nat.{sub-zero}
+use Prim.Native.Nat.{_-_, _≤_}
+use mathlib.Core.Path.{_≡_, sym, _∙_}
+use Rattle.graph.proofs.next_row.Statement.{statement}
+use Rattle.graph.proofs.next_row.Tie as tie
+
+abbrev Inv-loop : tie.InvT-loop
+Inv-loop set n rows r₀ r = (r ≤ n) × (firstBad (held (rows .bits) set) 0 n ≡ firstBad (held (rows .bits) set) r (n - r))
+
+abbrev μ-loop : tie.MeasureT-loop
+μ-loop set n rows r₀ r = n - r
+
+loop-holds : tie.Need-loop-holds Inv-loop μ-loop
+loop-holds c = (search needs, rw sub-zero)
+
+row-at-requires : tie.Need-row-at-requires Inv-loop μ-loop
+row-at-requires c κs = search needs
+
+has-bit-requires : tie.Need-has-bit-requires Inv-loop μ-loop
+has-bit-requires c κs = search needs
+
+is-within-requires : tie.Need-is-within-requires Inv-loop μ-loop
+is-within-requires c κs = search needs
+
+returns : tie.Need-returns Inv-loop μ-loop
+returns c = sym (c .before .before .before .before .before .before .before .loop .inv .1 ∙ first-stop (held (c .before .before .before .before .before .before .before .before .args .t1 .bits) (c .before .before .before .before .before .before .before .before .args .set)) (c .before .before .before .before .before .before .before .before .args .n) (c .before .before .before .before .before .before .before .loop .r) (c .before .before .before .before .before .before .loop-test .taken) (held-not (c .before .before .before .before .before .before .before .before .args .t1 .bits) (c .before .before .before .before .before .before .before .before .args .set) (c .before .before .before .before .before .before .before .loop .r) _ _ _ (c .before .before .before .row-at .ensures) (c .before .before .has-bit .ensures) (c .before .is-within .ensures) (c .if1 .taken)))
+
+add-r : tie.Need-add-r Inv-loop μ-loop
+add-r c = search needs
+
+loop-less : tie.Need-loop-less Inv-loop μ-loop
+loop-less c = search needs
+
+loop-again : tie.Need-loop-again Inv-loop μ-loop
+loop-again c = (search needs, c .before .before .before .before .before .before .before .loop .inv .1 ∙ first-more (held (c .before .before .before .before .before .before .before .before .args .t1 .bits) (c .before .before .before .before .before .before .before .before .args .set)) (c .before .before .before .before .before .before .before .before .args .n) (c .before .before .before .before .before .before .before .loop .r) (c .before .before .before .before .before .before .loop-test .taken) (held-still (c .before .before .before .before .before .before .before .before .args .t1 .bits) (c .before .before .before .before .before .before .before .before .args .set) (c .before .before .before .before .before .before .before .loop .r) _ _ _ (c .before .before .before .row-at .ensures) (c .before .before .has-bit .ensures) (c .before .is-within .ensures) (c .if1 .left)))
+
+returns-2 : tie.Need-returns-2 Inv-loop μ-loop
+returns-2 c = sym (c .before .loop .inv .1 ∙ first-end (held (c .before .before .args .t1 .bits) (c .before .before .args .set)) (c .before .before .args .n) (c .before .loop .r) (c .loop-test .left))
+
+pub next-row-spec : {M : Type 1} → statement M
+next-row-spec =
+    tie.close
+    (tie.spec
+    Inv-loop
+    μ-loop
+    loop-holds
+    row-at-requires
+    has-bit-requires
+    is-within-requires
+    returns
+    add-r
+    loop-less
+    loop-again
+    returns-2)

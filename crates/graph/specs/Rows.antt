@@ -1,0 +1,24 @@
+-- Rows of bits: the bits of a row, a row put into others, and rows that a set holds back.
+use mathlib.Core.Bool.{Bool, not, cond, _&&_}
+use mathlib.Core.List.{List}
+use Prim.Native.Nat.{ℕ}
+use lib.Bits.{bitOr}
+use lib.Dec.{eqb}
+use lib.ListN.{getD}
+use Rattle.plans.specs.Bits.{hasBit}
+
+-- row a has bit b
+unfoldable pub bitAt : List ℕ → ℕ → ℕ → Bool
+bitAt rows a b = hasBit (getD rows a 0) b
+
+-- row i once row s is put into each row that has bit s
+unfoldable pub joined : List ℕ → ℕ → ℕ → ℕ
+joined rows s i = cond (hasBit (getD rows i 0) s) (bitOr (getD rows i 0) (getD rows s 0)) (getD rows i 0)
+
+-- each bit of a is one of b
+unfoldable pub within : ℕ → ℕ → Bool
+within a b = eqb (bitOr a b) b
+
+-- row r is in the set, or has a bit that is not
+unfoldable pub held : List ℕ → ℕ → ℕ → Bool
+held rows set r = not (not (hasBit set r) && within (getD rows r 0) set)

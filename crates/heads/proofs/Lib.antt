@@ -1,0 +1,2 @@
+-- Laws of line 1.
+pub mod HeadLaws

@@ -1,0 +1,2 @@
+-- The names of gate lines.
+pub mod LineNames

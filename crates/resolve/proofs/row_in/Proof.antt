@@ -1,0 +1,22 @@
+-- `row_in`.
+use lib.ListN.{length, List·getD-eq-default}
+use native.Mathlib.Omega.{arith}
+use mathlib.Core.Path.{_≡_, sym}
+use borrow.Author.Needs.{needs}
+use Rattle.resolve.proofs.row_in.Statement.{statement}
+use Rattle.resolve.proofs.row_in.Tie as tie
+
+mul-result : tie.Need-mul-result
+mul-result c = search needs
+
+element-copy-out-result : tie.Need-element-copy-out-result
+element-copy-out-result c = search needs
+
+returns : tie.Need-returns
+returns c = search needs
+
+returns-2 : tie.Need-returns-2
+returns-2 c = let long : length (c .before .args .t1 .bits) ≡ 64 = search needs in let h = c .if1 .left in sym (List·getD-eq-default (c .before .args .t1 .bits) 0 (omega arith))
+
+pub row-in-spec : {M : Type 1} → statement M
+row-in-spec = tie.close (tie.spec mul-result element-copy-out-result returns returns-2)
