@@ -1,0 +1,3 @@
+-- Laws that the proofs cite, and the steps of a table.
+pub mod WordLaws
+pub mod StepTheorems

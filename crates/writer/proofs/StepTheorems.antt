@@ -1,0 +1,157 @@
+-- What is written for a region of an accepted line is its step in the table.
+use mathlib.Core.Path.{_≡_, refl, sym, ap, _∙_}
+use mathlib.Core.Bool.{Bool, true, false, cond}
+use mathlib.Core.List.{List, [], _∷_, _++_, map, map-append}
+use Prim.Native.Nat.{ℕ, zero, suc, _+_, _-_, _*_, _%_, _≤_, _<_, min}
+use native.Mathlib.Omega.{arith}
+use borrow.Author.Tests.{leb-true, eqb-true, lt-ltb}
+use lib.Dec.{eqb, leb}
+use lib.IntN.{ℤ, pos}
+use lib.ListN.{length}
+use Rattle.text.specs.Bounded.{tab}
+use Rattle.text.proofs.TestLaws.{true≢false, and-left, and-right}
+use Rattle.text.proofs.BoundedLaws.{length-tab, tab-ext}
+use Rattle.plans.specs.Form.{spans, spansBy}
+use Rattle.plans.proofs.IndexLaws.{first-to}
+use Rattle.gates.specs.declared.LineKind.{LineKind}
+use Rattle.gates.specs.declared.LineKind.the-variants.{Rect, Poly, Ellip, Quad, And, Or, Not, Unknown}
+use Rattle.gates.specs.Kinds.{fieldAt, lineKind, isUnknown, isQuad, isNone, isComplement, operandName}
+use Rattle.gates.specs.Quads.{dividerCount}
+use Rattle.gates.specs.Rules.{noRefusal}
+use Rattle.gates.specs.Refusal.{lineRefusal}
+use Rattle.gates.specs.Gate.{Name, Leaf, leaf, Region}
+use Rattle.gates.specs.Meaning.{rectLeaf, polyLeaf, ellipLeaf, quadrantOf, operandOf, parentOf}
+use Rattle.gates.specs.Regions.{regionCount, regionName, shapeIn, regionShape, stepNumber, bodyLength, bodyWordOf}
+use Rattle.gates.proofs.AcceptedLaws.{Accepted, accepted}
+use Rattle.gates.proofs.QuadLaws.{count-small}
+use Rattle.gates.proofs.GateLaws.{leaf-words}
+use Rattle.tables.specs.Table.{nthRegion, otherName, numberOf}
+use Rattle.tables.specs.Steps.{kindNumber, shapeKind, referenceWord, bodyWords, parentWord, stepWords}
+use Rattle.writer.specs.Words.{numberWord, parentNumberWord, header, operandWord, combines, operandAt}
+
+-- ---- numbers that are words as they are
+
+number-kept : (n : ℕ) → n ≤ 65535 → numberWord n ≡ pos n
+unfolding numberWord
+number-kept n h = let e : min n 65535 ≡ n = omega arith in ap pos e
+
+number-few : (rs : List Region) (n : Name) → numberOf rs n ≤ length rs
+unfolding numberOf
+number-few rs n = omega (arith, first-to (otherName rs n) 0 (length rs))
+
+-- ---- the parent
+
+module _ (rs : List Region) (x : List ℕ) where
+  pub parent-none : isNone x ≡ true → parentNumberWord 64 ≡ parentWord rs (parentOf x)
+  unfolding parentNumberWord parentOf
+  parent-none e = rw e
+
+  pub parent-some : isNone x ≡ false → numberOf rs x < 64 → parentNumberWord (numberOf rs x) ≡ parentWord rs (parentOf x)
+  unfolding parentNumberWord parentOf
+  parent-some e h = rw (e, lt-ltb (numberOf rs x) 64 h)
+
+-- ---- by the kind of an accepted line
+
+kind-in : (head : List (List ℕ)) (kind : LineKind) (fs : List (List ℕ)) (q : ℕ) → isUnknown kind ≡ false → stepNumber kind ≡ kindNumber (shapeKind (shapeIn head kind fs q))
+kind-in head Rect fs q u = refl
+kind-in head Poly fs q u = refl
+kind-in head Ellip fs q u = refl
+kind-in head Quad fs q u = refl
+kind-in head And fs q u = refl
+kind-in head Or fs q u = refl
+kind-in head Not fs q u = refl
+kind-in head Unknown fs q u = absurd (true≢false u)
+
+span-high : (lo hi m : ℕ) → spans lo hi m ≡ true → m ≤ hi
+unfolding spans
+span-high lo hi m e = leb-true m hi (and-right (leb lo m) (leb m hi) e)
+
+span-by-high : (s lo hi m : ℕ) → spansBy s lo hi m ≡ true → m ≤ hi
+unfolding spansBy
+span-by-high s lo hi m e = span-high lo hi m (and-left (spans lo hi m) (eqb (m % s) 0) e)
+
+length-in : (head : List (List ℕ)) (kind : LineKind) (fs : List (List ℕ)) → Accepted head kind fs → cond (isQuad kind) (3 * dividerCount fs) (length fs - 3) ≤ 65535
+length-in head Rect fs a = omega (arith, span-by-high 3 3 24 (length fs - 3) (a .shape))
+length-in head Poly fs a = omega (arith, span-by-high 2 8 514 (length fs - 3) (a .shape))
+length-in head Ellip fs a = omega (arith, eqb-true (length fs - 3) 8 (a .shape))
+length-in head Quad fs a = omega (arith, count-small (fieldAt fs 3))
+length-in head And fs a = omega (arith, span-high 2 63 (length fs - 3) (a .shape))
+length-in head Or fs a = omega (arith, span-high 2 63 (length fs - 3) (a .shape))
+length-in head Not fs a = omega (arith, eqb-true (length fs - 3) 1 (a .shape))
+length-in head Unknown fs a = absurd (true≢false (a .known))
+
+leaf-in : (head : List (List ℕ)) (kind : LineKind) (fs : List (List ℕ)) (q : ℕ) → isUnknown kind ≡ false → combines kind ≡ false → (l : Leaf) × (shapeIn head kind fs q ≡ leaf l)
+leaf-in head Rect fs q u c = (rectLeaf head fs, refl)
+leaf-in head Poly fs q u c = (polyLeaf head fs, refl)
+leaf-in head Ellip fs q u c = (ellipLeaf head fs, refl)
+leaf-in head Quad fs q u c = (quadrantOf head fs q .box, refl)
+leaf-in head And fs q u c = absurd (true≢false c)
+leaf-in head Or fs q u c = absurd (true≢false c)
+leaf-in head Not fs q u c = absurd (true≢false c)
+leaf-in head Unknown fs q u c = absurd (true≢false u)
+
+map-tab : {A B : Type 0} (g : A → B) (f : ℕ → A) (n : ℕ) → map g (tab f n) ≡ tab (λ i. g (f i)) n
+map-tab g f zero = refl
+map-tab g f (suc n) = map-append g (tab f n) (f n ∷ []) ∙ rw (map-tab g f n)
+
+abbrev reference : List Region → List (List ℕ) → ℕ → ℤ
+reference rs fs j = referenceWord rs (operandOf (fieldAt fs (3 + j)))
+
+operands-in : (rs : List Region) (head : List (List ℕ)) (kind : LineKind) (fs : List (List ℕ)) (q : ℕ) → Accepted head kind fs → combines kind ≡ true
+    → bodyWords rs (shapeIn head kind fs q) ≡ tab (reference rs fs) (cond (isQuad kind) (3 * dividerCount fs) (length fs - 3))
+operands-in rs head Rect fs q a c = absurd (true≢false (sym c))
+operands-in rs head Poly fs q a c = absurd (true≢false (sym c))
+operands-in rs head Ellip fs q a c = absurd (true≢false (sym c))
+operands-in rs head Quad fs q a c = absurd (true≢false (sym c))
+operands-in rs head And fs q a c = map-tab (referenceWord rs) (λ j. operandOf (fieldAt fs (3 + j))) (length fs - 3)
+operands-in rs head Or fs q a c = map-tab (referenceWord rs) (λ j. operandOf (fieldAt fs (3 + j))) (length fs - 3)
+operands-in rs head Not fs q a c = rw (eqb-true (length fs - 3) 1 (a .shape))
+operands-in rs head Unknown fs q a c = absurd (true≢false (sym c))
+
+-- ---- the step of a region
+
+module _ (rs : List Region) (few : length rs ≤ 64) (r : ℕ) (below : r < length rs) (head fs : List (List ℕ)) (good : lineRefusal head fs ≡ noRefusal) (q : ℕ)
+    (here : nthRegion rs r ≡ record { name = regionName fs q; parent = parentOf (fieldAt fs 2); shape = regionShape head fs q })
+    (p : ℕ) (parent : parentNumberWord p ≡ parentWord rs (parentOf (fieldAt fs 2))) where
+  line : Accepted head (lineKind fs) fs
+  unfolding lineRefusal
+  line = accepted head (lineKind fs) fs good
+
+  short : bodyLength fs ≤ 65535
+  unfolding bodyLength
+  short = length-in head (lineKind fs) fs line
+
+  kind-is : stepNumber (lineKind fs) ≡ kindNumber (shapeKind (regionShape head fs q))
+  unfolding regionShape
+  kind-is = kind-in head (lineKind fs) fs q (line .known)
+
+  -- the step, where the body is known
+  whole : (f : ℕ → ℤ) → bodyWords rs (regionShape head fs q) ≡ tab f (bodyLength fs) → header (stepNumber (lineKind fs)) r p (bodyLength fs) ++ tab f (bodyLength fs) ≡ stepWords rs r
+  unfolding header stepWords
+  whole f e = rw (here, e, length-tab f (bodyLength fs), parent, number-kept r (omega arith), number-kept (bodyLength fs) short, kind-is)
+
+  the-leaf : combines (lineKind fs) ≡ false → (l : Leaf) × (regionShape head fs q ≡ leaf l)
+  unfolding regionShape
+  the-leaf c = leaf-in head (lineKind fs) fs q (line .known) c
+
+  pub leaf-step : length head ≤ 8 → q < regionCount fs → combines (lineKind fs) ≡ false
+      → header (stepNumber (lineKind fs)) r p (bodyLength fs) ++ tab (bodyWordOf head fs q) (bodyLength fs) ≡ stepWords rs r
+  leaf-step eight h c = let l = the-leaf c in whole (bodyWordOf head fs q) (ap (bodyWords rs) (l .1) ∙ leaf-words head fs eight q h (l .0) (l .1) .1)
+
+  operands : combines (lineKind fs) ≡ true → bodyWords rs (regionShape head fs q) ≡ tab (reference rs fs) (bodyLength fs)
+  unfolding regionShape bodyLength
+  operands c = operands-in rs head (lineKind fs) fs q line c
+
+  operand-same : (j : ℕ) → reference rs fs j ≡ operandAt rs fs j
+  unfolding operandAt operandWord
+  operand-same j =
+      let x = fieldAt fs (3 + j) in
+      sym (number-kept (2 * numberOf rs (operandName x) + cond (isComplement x) 1 0) (omega (arith, number-few rs (operandName x), bit (isComplement x))))
+    where
+      bit : (b : Bool) → cond b 1 0 ≤ 1
+      bit true = omega arith
+      bit false = omega arith
+
+  pub combination-step : combines (lineKind fs) ≡ true
+      → header (stepNumber (lineKind fs)) r p (bodyLength fs) ++ tab (operandAt rs fs) (bodyLength fs) ≡ stepWords rs r
+  combination-step c = whole (operandAt rs fs) (operands c ∙ tab-ext (reference rs fs) (operandAt rs fs) (bodyLength fs) (λ j h. operand-same j))

@@ -1,0 +1,125 @@
+// The step writer: each step is written over the beginning of a slice that is lent, as far as it goes.
+ghost use mathlib.Core.Path.{_≡_};
+ghost use mathlib.Core.List.{_++_};
+ghost use Prim.Native.Nat.{_+_};
+ghost use lib.ListN.{set, drop};
+ghost use Rattle.text.specs.Bounded.{tab};
+ghost use Rattle.text.specs.Lines.{fields};
+ghost use Rattle.text.specs.Output.{over};
+ghost use Rattle.gates.specs.Kinds.{lineKind};
+ghost use Rattle.gates.specs.Regions.{stepNumber, bodyLength, bodyWordOf};
+ghost use Rattle.writer.specs.Words.{numberWord, parentNumberWord, header, operandWord, combines as combinesOf};
+use gatefields::fields::kind_of;
+use gatefields::fields::lesser;
+use gatelines::regions::body_length;
+use gatelines::regions::step_number;
+use gatelines::regions::word_of;
+use gates::LineKind;
+
+fn combines(kind: LineKind) -> bool
+    ensures { λ r. ⌜ r ≡ combinesOf kind ⌝ }
+{
+    match kind {
+        LineKind::Rect => false,
+        LineKind::Poly => false,
+        LineKind::Ellip => false,
+        LineKind::Quad => false,
+        LineKind::And => true,
+        LineKind::Or => true,
+        LineKind::Not => true,
+        LineKind::Unknown => false,
+    }
+}
+
+// Whether the gate of a line combines operands.
+pub fn has_operands(line: &[u8]) -> bool
+    ensures { λ r. ⌜ r ≡ combinesOf (lineKind (fields (now (line .entry)))) ⌝ }
+{
+    combines(kind_of(line))
+}
+
+// A number as a word.
+fn number_word(n: usize) -> i32
+    ensures { λ r. ⌜ r ≡ numberWord n ⌝ }
+{
+    lesser(n, 65535) as i32
+}
+
+// The word of a parent's region; 64 or more for none.
+fn parent_word(parent: usize) -> i32
+    ensures { λ r. ⌜ r ≡ parentNumberWord parent ⌝ }
+{
+    if parent < 64 {
+        return parent as i32;
+    }
+    -1
+}
+
+// The word of an operand.
+fn operand_word(region: usize, complement: bool) -> i32
+    ensures { λ r. ⌜ r ≡ operandWord region complement ⌝ }
+{
+    let twice = 2 * lesser(region, 65535);
+    if complement {
+        return number_word(twice + 1);
+    }
+    number_word(twice)
+}
+
+// Puts a word at index i, where there is one.
+fn put_word(rest: &mut [i32], i: usize, word: i32)
+    ensures { λ _. ⌜ now (rest .exit) ≡ set (now (rest .entry)) i word ⌝ }
+{
+    if i < rest.len() {
+        rest[i] = word;
+    }
+}
+
+// Writes a step's header over the beginning of rest, and answers how many words it has. A parent of 64 or more is none.
+pub fn put_header(rest: &mut [i32], kind: u8, region: usize, parent: usize, length: usize) -> usize
+    ensures { λ r. ⌜ (r ≡ 4) × (now (rest .exit) ≡ over (header kind region parent length) (now (rest .entry))) ⌝ }
+{
+    put_word(rest, 0, kind as i32);
+    put_word(rest, 1, number_word(region));
+    put_word(rest, 2, parent_word(parent));
+    put_word(rest, 3, number_word(length));
+    4
+}
+
+// Writes the body of region q of a box, polygon or ellipse over the beginning of rest, and answers how many words it has.
+pub fn put_leaf(rest: &mut [i32], head: &[u8], line: &[u8], q: usize) -> usize
+    ensures { λ r. ⌜ (r ≡ bodyLength (fields (now (line .entry)))) × (now (rest .exit) ≡ over (tab (bodyWordOf (drop 1 (fields (now (head .entry)))) (fields (now (line .entry))) q) (bodyLength (fields (now (line .entry))))) (now (rest .entry))) ⌝ }
+{
+    let n = body_length(line);
+    let mut i = 0;
+    while i < n {
+        put_word(rest, i, word_of(head, line, q, i));
+        i += 1;
+    }
+    i
+}
+
+// Puts the word of an operand at index i, where there is one.
+pub fn put_operand(rest: &mut [i32], i: usize, region: usize, complement: bool)
+    ensures { λ _. ⌜ now (rest .exit) ≡ set (now (rest .entry)) i (operandWord region complement) ⌝ }
+{
+    put_word(rest, i, operand_word(region, complement));
+}
+
+// Writes the step of region q of a box, polygon or ellipse over the beginning of rest, and answers how many words it has.
+pub fn put_leaf_step(
+    rest: &mut [i32],
+    head: &[u8],
+    line: &[u8],
+    q: usize,
+    region: usize,
+    parent: usize,
+) -> usize
+    ensures { λ r. ⌜ (r ≡ 4 + bodyLength (fields (now (line .entry)))) × (now (rest .exit) ≡ over (header (stepNumber (lineKind (fields (now (line .entry))))) region parent (bodyLength (fields (now (line .entry)))) ++ tab (bodyWordOf (drop 1 (fields (now (head .entry)))) (fields (now (line .entry))) q) (bodyLength (fields (now (line .entry))))) (now (rest .entry))) ⌝ }
+{
+    put_header(rest, step_number(line), region, parent, body_length(line));
+    if rest.len() < 4 {
+        return 4 + body_length(line);
+    }
+    4 + put_leaf(&mut rest[4..], head, line, q)
+}
