@@ -25,13 +25,13 @@ use Rattle.text.proofs.BoundedLaws.{length-tab, getD-tab, tab-more}
 use Rattle.text.proofs.OutputLaws.{over-fits}
 use Rattle.text.proofs.TestLaws.{true≢false, passed-or-failed}
 use Rattle.gates.specs.Gate.{Name, Region}
-use Rattle.tables.specs.Table.{_∈_, someOf, nthRegion, numberOf, references}
+use Rattle.tables.specs.Table.{_∈_, nthRegion, numberOf, references}
 use Rattle.tables.specs.Reaching.{reachesBy}
 use Rattle.tables.specs.Steps.{isWritten, ready, waiting, nextRegion}
 use Rattle.tables.proofs.ListLaws.{some-at, some-found, every-at, every-of, unless}
 use Rattle.tables.proofs.LoopLaws.{has-or, row-next}
 use Rattle.tables.proofs.OrderLaws.{no-bit}
-use Rattle.graph.specs.Rows.{bitAt, joined, within, held}
+use Rattle.graph.specs.Rows.{bitAt, joined, within, held, Referring}
 
 -- ---- a row at a time
 
@@ -142,10 +142,6 @@ unfolding within
 within-of a b h = eq-eqb (bitOr a b) b (union-within a b h)
 
 -- ---- the next region
-
--- row r holds the numbers of the regions that region r refers to
-abbrev pub Referring : List Region → List ℕ → Type 0
-Referring rs rows = (r k : ℕ) → r < length rs → bitAt rows r k ≡ someOf (λ (n : Name). eqb (numberOf rs n) k) (references (nthRegion rs r))
 
 module _ (rs : List Region) (rows : List ℕ) (f : Referring rs rows) (set : ℕ) where
   row-has : (r : ℕ) → r < length rs → (n : Name) → n ∈ references (nthRegion rs r) → hasBit (getD rows r 0) (numberOf rs n) ≡ true

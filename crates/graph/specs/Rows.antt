@@ -1,11 +1,14 @@
--- Rows of bits: the bits of a row, a row put into others, and rows that a set holds back.
+-- Rows of bits: the bits of a row, a row put into others, rows that a set holds back, and the rows of a table's references.
+use mathlib.Core.Path.{_≡_}
 use mathlib.Core.Bool.{Bool, not, cond, _&&_}
 use mathlib.Core.List.{List}
-use Prim.Native.Nat.{ℕ}
+use Prim.Native.Nat.{ℕ, _<_}
 use lib.Bits.{bitOr}
 use lib.Dec.{eqb}
-use lib.ListN.{getD}
+use lib.ListN.{length, getD}
 use Rattle.plans.specs.Bits.{hasBit}
+use Rattle.gates.specs.Gate.{Name, Region}
+use Rattle.tables.specs.Table.{someOf, nthRegion, numberOf, references}
 
 -- row a has bit b
 unfoldable pub bitAt : List ℕ → ℕ → ℕ → Bool
@@ -22,3 +25,7 @@ within a b = eqb (bitOr a b) b
 -- row r is in the set, or has a bit that is not
 unfoldable pub held : List ℕ → ℕ → ℕ → Bool
 held rows set r = not (not (hasBit set r) && within (getD rows r 0) set)
+
+-- row r holds the numbers of the regions that region r refers to
+abbrev pub Referring : List Region → List ℕ → Type 0
+Referring rs rows = (r k : ℕ) → r < length rs → bitAt rows r k ≡ someOf (λ (n : Name). eqb (numberOf rs n) k) (references (nthRegion rs r))

@@ -25,14 +25,14 @@ use Rattle.gates.specs.Regions.{regionCount, regionName}
 use Rattle.gates.specs.Meaning.{quadrantOf, operandOf, operandsOf, bodyOf, parentOf, gateOf}
 use Rattle.gates.specs.declared.LineKind.{LineKind}
 use Rattle.gates.specs.declared.LineKind.the-variants.{Rect, Poly, Ellip, Quad, And, Or, Not, Unknown}
-use Rattle.gates.proofs.GateLaws.{region-count, region-at}
+use Rattle.gates.proofs.GateLaws.{map-tab, region-count, region-at}
 use Rattle.tables.specs.Table.{_∈_, someOf, noRegion, quadrantNames, ownNames, different, names, parentNames, bodyReferences, gateReferences}
 use Rattle.tables.specs.Rules.{Distinct}
 use Rattle.tables.specs.Reaching.{isIn, refersTo}
 use Rattle.tables.proofs.ListLaws.{some-at, some-found, not-not}
 use Rattle.tables.proofs.NameLaws.{same-not, distinct-at, at-distinct, different-distinct, distinct-different}
 use Rattle.names.specs.LineNames.{otherRegion, regionNamed, namesRegion, quadCount, quadrantName, otherQuadrant, quadrantNamed, givesName, sharesQuadrant, sharesName, newQuadrant, ownDifferent, endIn, referenceEnd, hasReference, referenceAt, passesBy, refersLine}
-use Rattle.names.proofs.TabLaws.{both-ways, tab-in, in-tab, found-some, any-some, map-tab}
+use Rattle.names.proofs.TabLaws.{both-ways, tab-in, in-tab, found-some, any-some}
 
 module _ (head fs : List (List ℕ)) where
   -- ---- names of regions
@@ -160,7 +160,7 @@ module _ (head fs : List (List ℕ)) where
       let e : max 3 (length fs) - 3 ≡ length fs - 3 = omega arith in
       map-tab (λ (o : Operand). o .name) (λ j. operandOf (fieldAt fs (3 + j))) (length fs - 3) ∙ rw e
 
-  end-past : 2 < referenceEnd fs
+  pub end-past : 2 < referenceEnd fs
   unfolding referenceEnd
   end-past = go (lineKind fs)
     where

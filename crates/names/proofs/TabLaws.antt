@@ -2,7 +2,7 @@
 use mathlib.Core.Path.{_≡_, refl, sym, ap, ap₂, _∙_}
 use mathlib.Core.Bool.{Bool, true, false, not, _||_}
 use mathlib.Core.Logic.{_⊎_, inl, inr}
-use mathlib.Core.List.{List, [], _∷_, _++_, map, Memᴰ·cast}
+use mathlib.Core.List.{List, [], _∷_, _++_, Memᴰ·cast}
 use Prim.Native.Nat.{ℕ, zero, suc, _<_}
 use native.Mathlib.Omega.{arith}
 use native.Mathlib.Decide.{decLt}
@@ -64,11 +64,3 @@ pub any-some : {A : Type 0} (f : ℕ → A) (p : A → Bool) (test : ℕ → Boo
 unfolding any
 any-some f p test e zero = refl
 any-some f p test e (suc n) = ap₂ _||_ (any-some f p test e n) (e n) ∙ sym (some-last p (tab f n) (f n))
-
-pub map-last : {A B : Type 0} (g : A → B) (l : List A) (x : A) → map g (l ++ (x ∷ [])) ≡ map g l ++ (g x ∷ [])
-map-last g [] x = refl
-map-last {B = B} g (y ∷ l) x = ap (λ (k : List B). g y ∷ k) (map-last g l x)
-
-pub map-tab : {A B : Type 0} (g : A → B) (f : ℕ → A) (n : ℕ) → map g (tab f n) ≡ tab (λ i. g (f i)) n
-map-tab g f zero = refl
-map-tab {B = B} g f (suc n) = map-last g (tab f n) (f n) ∙ ap (λ (l : List B). l ++ (g (f n) ∷ [])) (map-tab g f n)

@@ -23,13 +23,16 @@ module _ (text starts : List ℕ) (n i : ℕ) (h : i < n) where
   references-read : gateReferences (nthGate (gatesAt text starts n) i) ≡ gateReferences (gateAt text starts i)
   references-read = ap gateReferences (gates-nth text starts n i h)
 
+  pub living-here : living (gatesAt text starts n) i ≡ true → (k : ℕ) → 2 ≤ k → k < referenceEnd (fieldsAt text starts i) → hasReference (fieldsAt text starts i) k ≡ true
+      → isRegion (gatesAt text starts n) (referenceAt (fieldsAt text starts i) k) ≡ true
+  unfolding living
+  living-here t k l u a =
+      every-at (isRegion (gatesAt text starts n)) (reference-in (dimensions text) (fieldsAt text starts i) k l u a)
+      (sym (ap (every (isRegion (gatesAt text starts n))) references-read) ∙ t)
+
   pub dead-here : (k : ℕ) → 2 ≤ k → k < referenceEnd (fieldsAt text starts i) → hasReference (fieldsAt text starts i) k ≡ true
       → isRegion (gatesAt text starts n) (referenceAt (fieldsAt text starts i) k) ≡ false → living (gatesAt text starts n) i ≡ false
-  unfolding living
-  dead-here k l u a e =
-      unless (every (isRegion (gatesAt text starts n)) (gateReferences (nthGate (gatesAt text starts n) i))) (λ t.
-      true≢false (sym (every-at (isRegion (gatesAt text starts n)) (reference-in (dimensions text) (fieldsAt text starts i) k l u a)
-      (sym (ap (every (isRegion (gatesAt text starts n))) references-read) ∙ t)) ∙ e))
+  dead-here k l u a e = unless (living (gatesAt text starts n) i) (λ t. true≢false (sym (living-here t k l u a) ∙ e))
 
   pub living-all : ((k : ℕ) → 2 ≤ k → k < referenceEnd (fieldsAt text starts i) → hasReference (fieldsAt text starts i) k ≡ true
       → isRegion (gatesAt text starts n) (referenceAt (fieldsAt text starts i) k) ≡ true) → living (gatesAt text starts n) i ≡ true

@@ -9,13 +9,13 @@ use lib.Seq.{take-append-le, take-all, getD-take, getD-at}
 use Rattle.text.specs.Bounded.{tab}
 use Rattle.text.proofs.BoundedLaws.{length-tab}
 use Rattle.gates.specs.Gate.{Gate, Region, gateRegions, regions}
-use Rattle.gates.specs.Meaning.{gateOf}
-use Rattle.gates.specs.Regions.{regionCount, regionName}
-use Rattle.gates.proofs.GateLaws.{region-count, region-at}
+use Rattle.gates.specs.Kinds.{fieldAt}
+use Rattle.gates.specs.Meaning.{parentOf, gateOf}
+use Rattle.gates.specs.Regions.{regionCount, regionName, regionShape}
+use Rattle.gates.proofs.GateLaws.{map-last, region-count, region-at}
 use Rattle.tables.specs.Table.{noGate, nthGate, noRegion, nthRegion, upTo}
 use Rattle.tables.specs.Head.{dimensions, lineGate}
 use Rattle.tables.proofs.RegionLaws.{regions-append, region-number}
-use Rattle.names.proofs.TabLaws.{map-last}
 use Rattle.resolve.specs.Reading.{lineAt, fieldsAt, gatesAt}
 
 module _ (text starts : List ℕ) where
@@ -75,14 +75,19 @@ module _ (text starts : List ℕ) where
     pub count-fits : length (regions (gatesAt text starts i)) + regionCount (fieldsAt text starts i) ≤ length (regions (gatesAt text starts n))
     count-fits = omega (arith, count-more i, count-up n (suc i) (omega arith))
 
-    pub region-named : (q : ℕ) → q < regionCount (fieldsAt text starts i)
-        → nthRegion (regions (gatesAt text starts n)) (length (regions (gatesAt text starts i)) + q) .name ≡ regionName (fieldsAt text starts i) q
-    region-named q l =
+    -- region q of gate i
+    pub region-read : (q : ℕ) → q < regionCount (fieldsAt text starts i)
+        → nthRegion (regions (gatesAt text starts n)) (length (regions (gatesAt text starts i)) + q)
+        ≡ record { name = regionName (fieldsAt text starts i) q; parent = parentOf (fieldAt (fieldsAt text starts i) 2); shape = regionShape (dimensions text) (fieldsAt text starts i) q }
+    region-read q l =
         let g : nthGate (gatesAt text starts n) i ≡ gateAt i = gates-nth n i h in
         let k : q < length (gateRegions (nthGate (gatesAt text starts n) i)) = rw (g, region-count (dimensions text) (fieldsAt text starts i)) l in
         let t : take i (gatesAt text starts n) ≡ gatesAt text starts i = gates-take n i (omega arith) in
-        ap (λ (r : Region). r .name)
-        (ap (λ (u : List Gate). nthRegion (regions (gatesAt text starts n)) (length (regions u) + q)) (sym t)
+        ap (λ (u : List Gate). nthRegion (regions (gatesAt text starts n)) (length (regions u) + q)) (sym t)
         ∙ region-number (gatesAt text starts n) i (rw (gates-length n) h) q k
         ∙ ap (λ (x : Gate). getD (gateRegions x) q noRegion) g
-        ∙ region-at (dimensions text) (fieldsAt text starts i) q noRegion l)
+        ∙ region-at (dimensions text) (fieldsAt text starts i) q noRegion l
+
+    pub region-named : (q : ℕ) → q < regionCount (fieldsAt text starts i)
+        → nthRegion (regions (gatesAt text starts n)) (length (regions (gatesAt text starts i)) + q) .name ≡ regionName (fieldsAt text starts i) q
+    region-named q l = ap (λ (r : Region). r .name) (region-read q l)

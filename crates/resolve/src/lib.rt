@@ -207,7 +207,7 @@ pub fn first_dead(text: &[u8], starts: Starts, n: usize) -> usize
 }
 
 // The set with j put into it, where b holds.
-fn settle(set: u64, j: usize, b: bool) -> u64
+pub fn settle(set: u64, j: usize, b: bool) -> u64
     ensures { λ r. ⌜ r ≡ cond b (withBit set j) set ⌝ }
 {
     if b { with_bit(set, j) } else { set }

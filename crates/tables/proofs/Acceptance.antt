@@ -48,13 +48,13 @@ number-of : {v w : Verdict} → v ≡ w → v .number ≡ w .number
 number-of e = ap (λ (v : Verdict). v .number) e
 
 -- a verdict with a number of its own is none that passes
-not-refused : (c : Bool) (k place : ℕ) (v : Verdict) → 1 ≤ k → cond c (refused k place) v ≡ passed → (c ≡ false) × (v ≡ passed)
+pub not-refused : (c : Bool) (k place : ℕ) (v : Verdict) → 1 ≤ k → cond c (refused k place) v ≡ passed → (c ≡ false) × (v ≡ passed)
 not-refused true k place v h e = let z : k ≡ 0 = number-of e in absurd (omega arith)
 not-refused false k place v h e = (refl, e)
 
 module _ (number : ℕ → ℕ) (good : ℕ → Bool) (k : ℕ) (v : Verdict) where
   -- no line is refused: each is good
-  unless-passed : unlessLine number good k v ≡ passed → ((i : ℕ) → i < k → good i ≡ true) × (v ≡ passed)
+  pub unless-passed : unlessLine number good k v ≡ passed → ((i : ℕ) → i < k → good i ≡ true) × (v ≡ passed)
   unfolding unlessLine
   unless-passed e = go (passed-or-failed (ltb (firstBad good 0 k) k))
     where

@@ -21,13 +21,13 @@ use Rattle.counter.specs.Counting.{eventAt, takenAt, spoiltAt, memberAt, table,
 use Rattle.text.proofs.TestLaws.{passed-or-failed}
 use Rattle.gates.specs.Gate.{Name, Event, Quadrant, Body, one, quad, Gate, Region, regionsOf, regions}
 use Rattle.gates.proofs.GoodGate.{GoodShape, GoodBody, holders}
-use Rattle.tables.specs.Table.{_∈_, names, numberOf}
+use Rattle.tables.specs.Table.{_∈_, names, numberOf, sumOf}
 use Rattle.tables.specs.Rules.{Rules}
 use Rattle.tables.specs.Members.{inParent, member}
 use Rattle.tables.specs.Steps.{planWords}
 use Rattle.tables.proofs.ListLaws.{map-in, map-from}
 use Rattle.tables.proofs.NameLaws.{number-name, in-number}
-use Rattle.tables.proofs.SumLaws.{sumOf, sum-same, sum-add, sum-none}
+use Rattle.tables.proofs.SumLaws.{sum-same, sum-add, sum-none}
 use Rattle.tables.proofs.OrderLaws.{no-bit}
 use Rattle.tables.proofs.GateLaws.{orderly, region-of-gate, gate-of-region, quadrantRegion, moved-rules, moved-obeys}
 use Rattle.tables.proofs.PlanMembers.{bits-right}

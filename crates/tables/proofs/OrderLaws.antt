@@ -17,14 +17,14 @@ use Rattle.plans.proofs.IndexLaws.{first-at, first-before}
 use Rattle.text.specs.Bytes.{every}
 use Rattle.text.proofs.TestLaws.{true≢false, passed-or-failed, and-left, and-right}
 use Rattle.gates.specs.Gate.{Name, Region}
-use Rattle.tables.specs.Table.{_∈_, nthRegion, names, numberOf, references}
+use Rattle.tables.specs.Table.{_∈_, nthRegion, names, numberOf, references, sumOf}
 use Rattle.tables.specs.Reaching.{Reaches, refers, refers-on}
 use Rattle.tables.specs.Rules.{Distinct}
 use Rattle.tables.specs.Steps.{isWritten, ready, waiting, nextRegion, orderFrom, order}
 use Rattle.tables.proofs.ListLaws.{not-not, not-true, and-fails, every-at, every-fails}
 use Rattle.tables.proofs.NameLaws.{region-in, number-name, in-number}
 use Rattle.tables.proofs.ReachingLaws.{Next, circle}
-use Rattle.tables.proofs.SumLaws.{sumBelow, below-same, below-none, below-at, below-one, sumOf, sum-one}
+use Rattle.tables.proofs.SumLaws.{sumBelow, below-same, below-none, below-at, below-one, sum-one}
 
 -- ---- what the regions of a table that keeps the rules have
 

@@ -10,12 +10,12 @@ use Rattle.text.proofs.TextTheorems.{unlines-lines, lines-without, lines-unline
 use Rattle.text.proofs.TestLaws.{true≢false}
 use Rattle.gates.specs.Refusal.{lineRefusal}
 use Rattle.gates.specs.Gate.{Name, Shape, leaf, and-of, or-of, not-of, Region, regions}
-use Rattle.tables.specs.Table.{_∈_, noRegion, nthRegion}
+use Rattle.tables.specs.Table.{_∈_, noRegion, nthRegion, sumOf}
 use Rattle.tables.specs.Head.{headFields, dimensions, headGood, gateLines, lineGate, gates, LineOrder, reordered}
 use Rattle.tables.specs.Steps.{bodyWords, stepWords, stepsWords, order, planWords}
 use Rattle.tables.specs.Compile.{planOf}
 use Rattle.tables.proofs.ListLaws.{every-at, every-of}
-use Rattle.tables.proofs.SumLaws.{sumOf, sum-below, sum-moved}
+use Rattle.tables.proofs.SumLaws.{sum-below, sum-moved}
 use Rattle.tables.proofs.OrderLaws.{Orderly, order-sum}
 use Rattle.tables.proofs.GateLaws.{orderly, moved, moved-map, moved-sum, moved-rules}
 use Rattle.tables.proofs.TextLaws.{unlines-length, unlines-ends}

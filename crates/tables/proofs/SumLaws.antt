@@ -6,7 +6,7 @@ use Prim.Native.Nat.{ℕ, zero, suc, _+_, _<_}
 use native.Mathlib.Omega.{arith}
 use native.Mathlib.Decide.{decLt}
 use lib.ListN.{length, getD}
-use Rattle.tables.specs.Table.{_∈_}
+use Rattle.tables.specs.Table.{_∈_, sumOf}
 
 -- ---- over the indices below n
 
@@ -39,10 +39,6 @@ below-first f zero = omega arith
 below-first f (suc n) = omega (arith, below-first f n)
 
 -- ---- over a list
-
-abbrev pub sumOf : {A : Type 0} → (A → ℕ) → List A → ℕ
-sumOf f [] = 0
-sumOf f (x ∷ l) = f x + sumOf f l
 
 module _ {A : Type 0} where
   pub sum-same : (f g : A → ℕ) (l : List A) → ((x : A) → x ∈ l → f x ≡ g x) → sumOf f l ≡ sumOf g l

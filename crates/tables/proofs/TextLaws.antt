@@ -6,7 +6,7 @@ use Prim.Native.Nat.{ℕ, suc, _-_}
 use native.Mathlib.Omega.{arith}
 use lib.ListN.{length, length-append}
 use Rattle.text.specs.Lines.{unlines, endsInLF}
-use Rattle.tables.proofs.SumLaws.{sumOf}
+use Rattle.tables.specs.Table.{sumOf}
 
 pub unlines-length : (ls : List (List ℕ)) → length (unlines ls) ≡ sumOf (λ l. suc (length l)) ls
 unlines-length [] = refl

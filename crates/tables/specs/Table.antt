@@ -2,7 +2,7 @@
 use mathlib.Core.Bool.{Bool, false, not, _||_}
 use mathlib.Core.Option.{Option, none, some}
 use mathlib.Core.List.{List, [], _∷_, _++_, map, List·Memᴰ}
-use Prim.Native.Nat.{ℕ, suc}
+use Prim.Native.Nat.{ℕ, suc, _+_}
 use lib.ListN.{length, getD, take}
 use Rattle.plans.specs.Indices.{all, firstBad}
 use Rattle.text.specs.Bytes.{same}
@@ -16,6 +16,11 @@ a ∈ l = List·Memᴰ a l
 abbrev pub someOf : {A : Type 0} → (A → Bool) → List A → Bool
 someOf f [] = false
 someOf f (x ∷ l) = f x || someOf f l
+
+-- the sum of what the elements give
+abbrev pub sumOf : {A : Type 0} → (A → ℕ) → List A → ℕ
+sumOf f [] = 0
+sumOf f (x ∷ l) = f x + sumOf f l
 
 -- ---- by number: gates in the order of their lines, regions from 0 in table order
 

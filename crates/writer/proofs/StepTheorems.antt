@@ -1,8 +1,8 @@
 -- What is written for a region of an accepted line is its step in the table.
 use mathlib.Core.Path.{_≡_, refl, sym, ap, _∙_}
 use mathlib.Core.Bool.{Bool, true, false, cond}
-use mathlib.Core.List.{List, [], _∷_, _++_, map, map-append}
-use Prim.Native.Nat.{ℕ, zero, suc, _+_, _-_, _*_, _%_, _≤_, _<_, min}
+use mathlib.Core.List.{List, _++_}
+use Prim.Native.Nat.{ℕ, _+_, _-_, _*_, _%_, _≤_, _<_, min}
 use native.Mathlib.Omega.{arith}
 use borrow.Author.Tests.{leb-true, eqb-true, lt-ltb}
 use lib.Dec.{eqb, leb}
@@ -22,16 +22,16 @@ use Rattle.gates.specs.Refusal.{lineRefusal}
 use Rattle.gates.specs.Gate.{Name, Leaf, leaf, Region}
 use Rattle.gates.specs.Meaning.{rectLeaf, polyLeaf, ellipLeaf, quadrantOf, operandOf, parentOf}
 use Rattle.gates.specs.Regions.{regionCount, regionName, shapeIn, regionShape, stepNumber, bodyLength, bodyWordOf}
-use Rattle.gates.proofs.AcceptedLaws.{Accepted, accepted}
+use Rattle.gates.proofs.AcceptedLaws.{Accepted}
 use Rattle.gates.proofs.QuadLaws.{count-small}
-use Rattle.gates.proofs.GateLaws.{leaf-words}
+use Rattle.gates.proofs.GateLaws.{map-tab, leaf-words, line-accepted}
 use Rattle.tables.specs.Table.{nthRegion, otherName, numberOf}
 use Rattle.tables.specs.Steps.{kindNumber, shapeKind, referenceWord, bodyWords, parentWord, stepWords}
 use Rattle.writer.specs.Words.{numberWord, parentNumberWord, header, operandWord, combines, operandAt}
 
 -- ---- numbers that are words as they are
 
-number-kept : (n : ℕ) → n ≤ 65535 → numberWord n ≡ pos n
+pub number-kept : (n : ℕ) → n ≤ 65535 → numberWord n ≡ pos n
 unfolding numberWord
 number-kept n h = let e : min n 65535 ≡ n = omega arith in ap pos e
 
@@ -90,10 +90,6 @@ leaf-in head Or fs q u c = absurd (true≢false c)
 leaf-in head Not fs q u c = absurd (true≢false c)
 leaf-in head Unknown fs q u c = absurd (true≢false u)
 
-map-tab : {A B : Type 0} (g : A → B) (f : ℕ → A) (n : ℕ) → map g (tab f n) ≡ tab (λ i. g (f i)) n
-map-tab g f zero = refl
-map-tab g f (suc n) = map-append g (tab f n) (f n ∷ []) ∙ rw (map-tab g f n)
-
 abbrev reference : List Region → List (List ℕ) → ℕ → ℤ
 reference rs fs j = referenceWord rs (operandOf (fieldAt fs (3 + j)))
 
@@ -110,16 +106,15 @@ operands-in rs head Unknown fs q a c = absurd (true≢false (sym c))
 
 -- ---- the step of a region
 
+pub body-short : (head fs : List (List ℕ)) → lineRefusal head fs ≡ noRefusal → bodyLength fs ≤ 65535
+unfolding bodyLength
+body-short head fs good = length-in head (lineKind fs) fs (line-accepted head fs good)
+
 module _ (rs : List Region) (few : length rs ≤ 64) (r : ℕ) (below : r < length rs) (head fs : List (List ℕ)) (good : lineRefusal head fs ≡ noRefusal) (q : ℕ)
     (here : nthRegion rs r ≡ record { name = regionName fs q; parent = parentOf (fieldAt fs 2); shape = regionShape head fs q })
     (p : ℕ) (parent : parentNumberWord p ≡ parentWord rs (parentOf (fieldAt fs 2))) where
   line : Accepted head (lineKind fs) fs
-  unfolding lineRefusal
-  line = accepted head (lineKind fs) fs good
-
-  short : bodyLength fs ≤ 65535
-  unfolding bodyLength
-  short = length-in head (lineKind fs) fs line
+  line = line-accepted head fs good
 
   kind-is : stepNumber (lineKind fs) ≡ kindNumber (shapeKind (regionShape head fs q))
   unfolding regionShape
@@ -128,7 +123,7 @@ module _ (rs : List Region) (few : length rs ≤ 64) (r : ℕ) (below : r < leng
   -- the step, where the body is known
   whole : (f : ℕ → ℤ) → bodyWords rs (regionShape head fs q) ≡ tab f (bodyLength fs) → header (stepNumber (lineKind fs)) r p (bodyLength fs) ++ tab f (bodyLength fs) ≡ stepWords rs r
   unfolding header stepWords
-  whole f e = rw (here, e, length-tab f (bodyLength fs), parent, number-kept r (omega arith), number-kept (bodyLength fs) short, kind-is)
+  whole f e = rw (here, e, length-tab f (bodyLength fs), parent, number-kept r (omega arith), number-kept (bodyLength fs) (body-short head fs good), kind-is)
 
   the-leaf : combines (lineKind fs) ≡ false → (l : Leaf) × (regionShape head fs q ≡ leaf l)
   unfolding regionShape

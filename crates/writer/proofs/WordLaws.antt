@@ -1,5 +1,5 @@
 -- Laws of specs/Words, and of words that are written.
-use mathlib.Core.Path.{_≡_, refl, ap, _∙_}
+use mathlib.Core.Path.{_≡_, refl, sym, ap, _∙_}
 use mathlib.Core.Bool.{Bool, true, false, cond}
 use mathlib.Core.List.{List, [], _∷_, _++_}
 use Prim.Native.Nat.{ℕ, _+_, _-_, _*_, _≤_, _<_, min}
@@ -54,6 +54,13 @@ over-short [] (x ∷ q) (y ∷ d) h = absurd (omega arith)
 over-short (x ∷ p) q [] h = refl
 over-short (x ∷ p) q (y ∷ d) h = ap (λ (l : List ℤ). x ∷ l) (over-short p q d (omega arith))
 
+-- where p was written before
+over-again : (p q d : List ℤ) → over (p ++ q) (over p d) ≡ over (p ++ q) d
+unfolding over
+over-again [] q d = refl
+over-again (x ∷ p) q [] = refl
+over-again (x ∷ p) q (y ∷ d) = ap (λ (l : List ℤ). x ∷ l) (over-again p q d)
+
 -- ---- a header, and a body behind it
 
 module _ (k r p m : ℕ) (body d x : List ℤ) (e : x ≡ over (header k r p m) d) where
@@ -64,11 +71,20 @@ module _ (k r p m : ℕ) (body d x : List ℤ) (e : x ≡ over (header k r p m) 
   unfolding header
   step-cut h = e ∙ over-short (header k r p m) body d (omega (arith, length-kept))
 
+  -- the step is written over its header
+  pub step-again : over (header k r p m ++ body) x ≡ over (header k r p m ++ body) d
+  step-again = rw e (over-again (header k r p m) body d)
+
   -- the rest behind the header was lent
   pub step-joined : (y : List ℤ) → 4 ≤ length x → y ≡ over body (take (length x - 4) (drop 4 x))
       → take 4 x ++ (y ++ drop (length x - 4) (drop 4 x)) ≡ over (header k r p m ++ body) d
   unfolding header
   step-joined y h f = over-over (header k r p m) d x body y 4 refl (omega (arith, length-kept)) e f
+
+-- no word of the body yet
+pub step-begun : (k r p m : ℕ) (d x : List ℤ) → x ≡ over (header k r p m) d → x ≡ over (header k r p m ++ []) x
+unfolding header
+step-begun k r p m d x e = e ∙ sym (step-again k r p m [] d x e)
 
 -- one word more of the body
 pub step-more : (k r p m : ℕ) (f : ℕ → ℤ) (d : List ℤ) (j : ℕ) → set (over (header k r p m ++ tab f j) d) (4 + j) (f j) ≡ over (header k r p m ++ tab f (j + 1)) d

@@ -75,6 +75,13 @@ fn put_word(rest: &mut [i32], i: usize, word: i32)
     }
 }
 
+// Puts a number at index i, where there is one.
+pub fn put_number(rest: &mut [i32], i: usize, n: usize)
+    ensures { λ _. ⌜ now (rest .exit) ≡ set (now (rest .entry)) i (numberWord n) ⌝ }
+{
+    put_word(rest, i, number_word(n));
+}
+
 // Writes a step's header over the beginning of rest, and answers how many words it has. A parent of 64 or more is none.
 pub fn put_header(rest: &mut [i32], kind: u8, region: usize, parent: usize, length: usize) -> usize
     ensures { λ r. ⌜ (r ≡ 4) × (now (rest .exit) ≡ over (header kind region parent length) (now (rest .entry))) ⌝ }

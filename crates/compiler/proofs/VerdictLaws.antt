@@ -1,0 +1,203 @@
+-- What compiling answers by the table's verdict.
+use mathlib.Core.Path.{_≡_, refl, sym, ap, _∙_}
+use mathlib.Core.Bool.{Bool, true, false, not, cond}
+use mathlib.Core.List.{List, []}
+use Prim.Native.Nat.{ℕ, zero, suc, _+_, _-_, _<_, _≤_, min}
+use native.Mathlib.Omega.{arith}
+use lib.Dec.{ltb, eqb}
+use lib.IntN.{ℤ, pos, negsuc}
+use lib.ListN.{length, getD}
+use borrow.Author.Tests.{ltb-false, lt-ltb, le-ltb, eqb-true, ne-eqb}
+use Rattle.plans.specs.Indices.{firstBad}
+use Rattle.plans.specs.Refusals.{Verdict, passed, refused}
+use Rattle.text.specs.Numbers.{isNumber, numberValue, within}
+use Rattle.text.specs.Names.{isName}
+use Rattle.text.specs.Lines.{endsInLF, fields}
+use Rattle.text.specs.Output.{over}
+use Rattle.text.proofs.BoundedLaws.{least-above}
+use Rattle.text.proofs.OutputLaws.{over-length}
+use Rattle.gates.specs.declared.LineKind.{LineKind}
+use Rattle.gates.specs.declared.Rule.{Rule}
+use Rattle.gates.specs.declared.Rule.the-variants.{Free, Name, Parent, Operand, Dimension, Coordinate, Entry, Distance, Min, Max, Value, Rising, Representative}
+use Rattle.gates.specs.Kinds.{lineKind, isUnknown, isStar, isParent, isOperand}
+use Rattle.gates.specs.Rules.{noRefusal, unless, numberRefusal, optionalRefusal, rises, earned, fieldRefusal, fieldsRefusal, ruleOf, dimensionPasses}
+use Rattle.gates.specs.Refusal.{kindRefusal, lineRefusal, shapeGood, matrixPasses, tilingPasses}
+use Rattle.gates.specs.Gate.{regions}
+use Rattle.tables.specs.Head.{dimensions, headGood, gateLines, gates}
+use Rattle.tables.specs.Steps.{planWords}
+use Rattle.tables.specs.Refusals.{unlessLine, refusalAt, lineGood, always, uncrowded, unrepeated, living, uncircled, sizeVerdict, tableVerdict}
+use Rattle.tables.specs.Compile.{Compiling, planOf, compiled, uncompiled, compileOf}
+use Rattle.resolve.specs.NamedVerdict.{namesVerdict}
+use Rattle.resolve.specs.declared.Named.the-variants.{Fine}
+use Rattle.tablecheck.specs.declared.Answer.{Answer}
+use Rattle.tablecheck.specs.declared.Answer.the-variants.{Names}
+use Rattle.tablecheck.specs.TextVerdict.{answered, textVerdict}
+use Rattle.tablecheck.proofs.CursorLaws.{table-verdict}
+use Rattle.compiler.specs.Answers.{Unrefused}
+
+-- ---- the number of a refusal is never 0
+
+either : (b : Bool) (x y : ℕ) → 4 ≤ x → 4 ≤ y → 4 ≤ cond b x y
+either true x y h k = h
+either false x y h k = k
+
+lesser : (x y : ℕ) → 4 ≤ x → 4 ≤ y → 4 ≤ min x y
+lesser x y h k = omega arith
+
+unless-named : (b : Bool) (k : ℕ) → 4 ≤ k → 4 ≤ unless b k
+unless-named b k h = either b noRefusal k (omega arith) h
+
+number-named : (lo hi : ℤ) (x : List ℕ) → 4 ≤ numberRefusal lo hi x
+unfolding numberRefusal
+number-named lo hi x = either (isNumber x) (unless (within lo hi (numberValue x)) 8) 7 (unless-named (within lo hi (numberValue x)) 8 (omega arith)) (omega arith)
+
+optional-named : (lo hi : ℤ) (x : List ℕ) → 4 ≤ optionalRefusal lo hi x
+unfolding optionalRefusal
+optional-named lo hi x = either (isStar x) noRefusal (numberRefusal lo hi x) (omega arith) (number-named lo hi x)
+
+earned-named : (rule : Rule) (b : Bool) (y x : List ℕ) → 4 ≤ earned rule b y x
+earned-named Free b y x = omega arith
+earned-named Name b y x = unless-named (isName x) 6 (omega arith)
+earned-named Parent b y x = unless-named (isParent x) 6 (omega arith)
+earned-named Operand b y x = unless-named (isOperand x) 6 (omega arith)
+earned-named Dimension b y x = unless-named (b) 9 (omega arith)
+earned-named Coordinate b y x = number-named _ _ x
+earned-named Entry b y x = number-named _ _ x
+earned-named Distance b y x = number-named _ _ x
+earned-named Min b y x = optional-named _ _ x
+earned-named Max b y x = lesser _ _ (optional-named _ _ x) (unless-named (rises y x) 10 (omega arith))
+earned-named Value b y x = number-named _ _ x
+earned-named Rising b y x = lesser _ _ (number-named _ _ x) (unless-named (rises y x) 10 (omega arith))
+earned-named Representative b y x = optional-named _ _ x
+
+fields-named : (head : List (List ℕ)) (kind : LineKind) (fs : List (List ℕ)) → 4 ≤ fieldsRefusal head kind fs
+unfolding fieldsRefusal fieldRefusal
+fields-named head kind fs = least-above (fieldRefusal head kind fs) noRefusal (length fs) 4 (omega arith) (λ i h. earned-named (ruleOf kind fs i) _ _ _)
+
+line-named : (head fs : List (List ℕ)) → 4 ≤ lineRefusal head fs
+unfolding lineRefusal kindRefusal
+line-named head fs =
+    let kind = lineKind fs in
+    either (isUnknown kind) 4 _ (omega arith)
+    (either (not (shapeGood kind (length fs - 3) fs)) 5 _ (omega arith)
+    (either (ltb (fieldsRefusal head kind fs) noRefusal) (fieldsRefusal head kind fs) _ (fields-named head kind fs)
+    (either (not (matrixPasses kind fs)) 11 _ (omega arith) (either (not (tilingPasses kind fs)) 12 noRefusal (omega arith) (omega arith)))))
+
+named-cond : (b : Bool) (v w : Verdict) → 1 ≤ v .number → 1 ≤ w .number → 1 ≤ cond b v w .number
+named-cond true v w h k = h
+named-cond false v w h k = k
+
+unless-line-named : (number : ℕ → ℕ) (good : ℕ → Bool) (k : ℕ) (v : Verdict) → ((i : ℕ) → 1 ≤ number i) → 1 ≤ v .number → 1 ≤ unlessLine number good k v .number
+unfolding unlessLine
+unless-line-named number good k v h l = named-cond (ltb (firstBad good 0 k) k) (refused (number (firstBad good 0 k)) (firstBad good 0 k + 2)) v (h (firstBad good 0 k)) l
+
+text-named : (text : List ℕ) (v : Verdict) → 1 ≤ v .number → 1 ≤ textVerdict text v .number
+unfolding textVerdict namesVerdict refusalAt
+text-named text v l =
+    let t = gates text in
+    named-cond (ltb 32768 (length text)) (refused 1 0) _ (omega arith)
+    (named-cond (not (endsInLF text)) (refused 2 0) _ (omega arith)
+    (named-cond (not (headGood text)) (refused 3 1) _ (omega arith)
+    (unless-line-named (refusalAt (dimensions text) (gateLines text)) (lineGood (dimensions text) (gateLines text)) (length (gateLines text)) _
+    (λ i. omega (arith, line-named (dimensions text) (fields (getD (gateLines text) i []))))
+    (unless-line-named (always 13) (uncrowded t) (length t) _ (λ i. omega arith)
+    (unless-line-named (always 14) (unrepeated t) (length t) _ (λ i. omega arith)
+    (unless-line-named (always 15) (living t) (length t) _ (λ i. omega arith)
+    (unless-line-named (always 16) (uncircled t) (length t) v (λ i. omega arith) l)))))))
+
+-- ---- refused by 1 to 16
+
+module _ (text : List ℕ) (slice : List ℤ) where
+  pub refused-16 : (number place : ℕ) → ((v : Verdict) → refused number place ≡ textVerdict text v) → uncompiled slice (refused number place) ≡ compileOf text slice
+  unfolding compileOf
+  refused-16 number place h =
+      let n : 1 ≤ number = rw (← h (refused 1 0)) at (text-named text (refused 1 0) (omega arith)) in
+      let z : eqb number 0 ≡ false = ne-eqb number 0 (λ e. omega arith) in
+      let e : tableVerdict (length slice) text ≡ refused number place = table-verdict (length slice) text ∙ sym (h _) in
+      rw (e, z)
+
+  -- ---- 17, 18, and none
+
+  module _ (u : Unrefused text) where
+    by-size : tableVerdict (length slice) text ≡ sizeVerdict (length slice) (length (planOf text))
+    unfolding planOf
+    by-size = table-verdict (length slice) text ∙ sym (u _)
+
+    pub refused-17 : 4096 < length (planOf text) → uncompiled slice (refused 17 0) ≡ compileOf text slice
+    unfolding compileOf sizeVerdict
+    refused-17 h = rw (by-size, lt-ltb 4096 (length (planOf text)) h)
+
+    module _ (h : length (planOf text) ≤ 4096) where
+      pub refused-18 : length slice < length (planOf text) → uncompiled slice (refused 18 0) ≡ compileOf text slice
+      unfolding compileOf sizeVerdict
+      refused-18 l = rw (by-size, le-ltb 4096 (length (planOf text)) h, lt-ltb (length slice) (length (planOf text)) l)
+
+      pub written : length (planOf text) ≤ length slice → {words : ℕ} → words ≡ length (planOf text) → {number : ℕ} → number ≡ length (regions (gates text))
+          → {after : List ℤ} → after ≡ over (planOf text) slice → _≡_ {A = Compiling} (record { verdict = passed; words = words; regions = number; slice = after }) (compileOf text slice)
+      unfolding compileOf sizeVerdict
+      written l e f g = rw (by-size, le-ltb 4096 (length (planOf text)) h, le-ltb (length slice) (length (planOf text)) l, e, f, g)
+
+-- ---- by the answer of the check
+
+module _ (text : List ℕ) (slice : List ℤ) {a : Answer} (h : (v : Verdict) → answered a v ≡ textVerdict text v) where
+  pub refused-as : {x : Answer} → a ≡ x → (number place : ℕ) → ((v : Verdict) → answered x v ≡ refused number place) → uncompiled slice (refused number place) ≡ compileOf text slice
+  refused-as e number place f = refused-16 text slice number place (λ v. sym (f v) ∙ ap (λ (y : Answer). answered y v) (sym e) ∙ h v)
+
+  pub unrefused-as : a ≡ Names Fine → Unrefused text
+  unrefused-as e v = ap (λ (y : Answer). answered y v) (sym e) ∙ h v
+
+-- ---- the words written are words of the slice
+
+fits-by : (a b : Bool) → cond a (refused 17 0) (cond b (refused 18 0) passed) .number ≡ 0 → b ≡ false
+fits-by true b e = absurd (omega (arith, e))
+fits-by false true e = absurd (omega (arith, e))
+fits-by false false e = refl
+
+size-fits : (slice words : ℕ) → sizeVerdict slice words .number ≡ 0 → words ≤ slice
+unfolding sizeVerdict
+size-fits slice words e = ltb-false slice words (fits-by (ltb 4096 words) (ltb slice words) e)
+
+module _ (text : List ℕ) (slice : List ℤ) where
+  plan-fits : tableVerdict (length slice) text .number ≡ 0 → length (planOf text) ≤ length slice
+  unfolding planOf
+  plan-fits e =
+      let words = length (planWords (length (dimensions text)) (regions (gates text))) in
+      let z : textVerdict text (sizeVerdict (length slice) words) .number ≡ 0 = ap (λ (w : Verdict). w .number) (sym (table-verdict (length slice) text)) ∙ e in
+      size-fits (length slice) words (low (sizeVerdict (length slice) words .number) (λ h. omega (arith, z, text-named text (sizeVerdict (length slice) words) h)))
+    where
+      low : (k : ℕ) → (1 ≤ k → ⊥) → k ≡ 0
+      low zero h = refl
+      low (suc k) h = absurd (h (omega arith))
+
+  words-in : (b : Bool) → (b ≡ true → length (planOf text) ≤ length slice) → (v : Verdict) → cond b (compiled text slice v) (uncompiled slice v) .words ≤ length slice
+  words-in true h v = h refl
+  words-in false h v = omega arith
+
+  pub words-fit : compileOf text slice .words ≤ length slice
+  unfolding compileOf
+  words-fit =
+      let v = tableVerdict (length slice) text in
+      words-in (eqb (v .number) 0) (λ e. plan-fits (eqb-true (v .number) 0 e)) v
+
+  length-in : (b : Bool) (v : Verdict) → length (cond b (compiled text slice v) (uncompiled slice v) .slice) ≡ length slice
+  length-in true v = over-length (planOf text) slice
+  length-in false v = refl
+
+  -- the slice keeps its length
+  pub length-kept : length (compileOf text slice .slice) ≡ length slice
+  unfolding compileOf
+  length-kept = length-in (eqb (tableVerdict (length slice) text .number) 0) (tableVerdict (length slice) text)
+
+  some-words : (b : Bool) (v : Verdict) → cond b (compiled text slice v) (uncompiled slice v) .words ≡ 0 → b ≡ false
+  unfolding planOf planWords
+  some-words true v e = absurd (omega (arith, e))
+  some-words false v e = refl
+
+  -- a refusal that compiling answers has a number
+  pub refused-number : {v : Verdict} {after : List ℤ} → uncompiled after v ≡ compileOf text slice → eqb (v .number) 0 ≡ false
+  unfolding compileOf
+  refused-number {v} e =
+      let t = tableVerdict (length slice) text in
+      let b : eqb (t .number) 0 ≡ false = some-words (eqb (t .number) 0) t (sym (ap (λ (c : Compiling). c .words) e)) in
+      let k : v ≡ t = ap (λ (c : Compiling). c .verdict) e ∙ rw b in
+      rw k b

@@ -1,0 +1,2 @@
+-- What compiling answers.
+pub mod Answers

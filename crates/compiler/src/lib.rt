@@ -1,0 +1,179 @@
+// Compiling a table into a lent slice.
+ghost use mathlib.Core.Path.{_≡_};
+ghost use Prim.Native.Nat.{_≤_, _<_};
+ghost use lib.ListN.{length};
+ghost use Rattle.text.specs.Output.{over};
+ghost use Rattle.events.specs.Writing.{overFrom};
+ghost use Rattle.gates.specs.Gate.{regions};
+ghost use Rattle.tables.specs.Head.{dimensions};
+ghost use Rattle.tables.specs.Steps.{order, stepWords, stepsWords, planWords};
+ghost use Rattle.tables.specs.Compile.{compileOf};
+ghost use Rattle.resolve.specs.Reading.{gatesAt};
+ghost use Rattle.regions.specs.Settled.{Settled};
+ghost use Rattle.compiler.specs.Answers.{refusal, compiling, Unrefused};
+use gatefields::fields::lesser;
+use gatefields::fields::minus;
+use gatefields::fields::name_count;
+use graph::next_row;
+use heads::head_line;
+use plans::bits::with_bit;
+use regions::locate;
+use regions::region_rows;
+use resolve::Named;
+use resolve::Starts;
+use resolve::region_total;
+use resolve::starts_of;
+use steps::put_step;
+use tablecheck::Answer;
+use tablecheck::check_table;
+use writer::put_number;
+
+// Why a table is refused, with its line.
+pub enum Refusal {
+    LongTable,
+    OpenLine,
+    BadHead,
+    // 4 to 12
+    BadLine { number: u8, line: usize },
+    Crowded { line: usize },
+    TwinName { line: usize },
+    DeadReference { line: usize },
+    Circle { line: usize },
+    LongPlan,
+    ShortSlice,
+}
+
+// What compiling answers: the words and regions written, or the refusal.
+pub enum Compiled {
+    Written { words: usize, regions: usize },
+    Refused(Refusal),
+}
+
+pub fn number_of(r: Refusal) -> u64
+    ensures { λ x. ⌜ x ≡ refusal r .number ⌝ }
+{
+    match r {
+        Refusal::LongTable => 1,
+        Refusal::OpenLine => 2,
+        Refusal::BadHead => 3,
+        Refusal::BadLine { number, line: _ } => number as u64,
+        Refusal::Crowded { line: _ } => 13,
+        Refusal::TwinName { line: _ } => 14,
+        Refusal::DeadReference { line: _ } => 15,
+        Refusal::Circle { line: _ } => 16,
+        Refusal::LongPlan => 17,
+        Refusal::ShortSlice => 18,
+    }
+}
+
+pub fn place_of(r: Refusal) -> u64
+    ensures { λ x. ⌜ x ≡ refusal r .place ⌝ }
+{
+    match r {
+        Refusal::LongTable => 0,
+        Refusal::OpenLine => 0,
+        Refusal::BadHead => 1,
+        Refusal::BadLine { number: _, line } => line as u64,
+        Refusal::Crowded { line } => line as u64,
+        Refusal::TwinName { line } => line as u64,
+        Refusal::DeadReference { line } => line as u64,
+        Refusal::Circle { line } => line as u64,
+        Refusal::LongPlan => 0,
+        Refusal::ShortSlice => 0,
+    }
+}
+
+// Lends what stands from index `at` on to the step writer, for the step of region r, and answers how many words the step has.
+fn put_step_from(
+    rest: &mut [i32],
+    at: usize,
+    text: &[u8],
+    starts: Starts,
+    n: usize,
+    r: usize,
+) -> usize
+    requires { ⌜ Settled (now text) (starts .at) n ⌝ }
+    requires { ⌜ r < length (regions (gatesAt (now text) (starts .at) n)) ⌝ }
+    ensures { λ x. ⌜ (x ≡ length (stepWords (regions (gatesAt (now (text .entry)) (starts .at) n)) r)) × (x ≤ 65539) × (now (rest .exit) ≡ overFrom at (stepWords (regions (gatesAt (now (text .entry)) (starts .at) n)) r) (now (rest .entry))) ⌝ }
+{
+    let place = locate(text, starts, n, r);
+    let gate = place.gate;
+    let quadrant = place.quadrant;
+    let b = lesser(at, rest.len());
+    put_step(&mut rest[b..], text, starts, n, gate, quadrant, r)
+}
+
+// Writes the steps in their order over the beginning of rest, as far as it goes, and answers how many words they have.
+fn put_steps(rest: &mut [i32], text: &[u8], starts: Starts, n: usize, total: usize) -> usize
+    requires { ⌜ Settled (now text) (starts .at) n ⌝ }
+    requires { ⌜ total ≡ length (regions (gatesAt (now text) (starts .at) n)) ⌝ }
+    ensures { λ x. ⌜ (x ≡ length (stepsWords (regions (gatesAt (now (text .entry)) (starts .at) n)) (order (regions (gatesAt (now (text .entry)) (starts .at) n))))) × (x ≤ 4194496) × (now (rest .exit) ≡ over (stepsWords (regions (gatesAt (now (text .entry)) (starts .at) n)) (order (regions (gatesAt (now (text .entry)) (starts .at) n)))) (now (rest .entry))) ⌝ }
+{
+    let rows = region_rows(text, starts, n);
+    let mut written = 0u64;
+    let mut at: usize = 0;
+    let mut k = 0;
+    while k < total {
+        let r = next_row(rows, written, total);
+        if total <= r {
+            return at;
+        }
+        let words = put_step_from(rest, at, text, starts, n, r);
+        at += words;
+        written = with_bit(written, r);
+        k += 1;
+    }
+    at
+}
+
+// Writes the plan over the beginning of a slice, as far as it goes, and answers how many words the plan has.
+fn put_plan(plan: &mut [i32], text: &[u8], starts: Starts, n: usize) -> usize
+    requires { ⌜ Settled (now text) (starts .at) n ⌝ }
+    ensures { λ x. ⌜ (x ≡ length (planWords (length (dimensions (now (text .entry)))) (regions (gatesAt (now (text .entry)) (starts .at) n)))) × (now (plan .exit) ≡ over (planWords (length (dimensions (now (text .entry)))) (regions (gatesAt (now (text .entry)) (starts .at) n))) (now (plan .entry))) ⌝ }
+{
+    let total = region_total(text, starts, n);
+    put_number(plan, 0, name_count(head_line(text)));
+    put_number(plan, 1, total);
+    let b = lesser(2, plan.len());
+    2 + put_steps(&mut plan[b..], text, starts, n, total)
+}
+
+// Compiles a table to which none of refusals 1 to 16 applies. The plan is measured before a word of the slice is written.
+fn compile_checked(table: &[u8], plan: &mut [i32]) -> Compiled
+    requires { ⌜ Unrefused (now table) ⌝ }
+    ensures { λ r. ⌜ compiling r (now (plan .exit)) ≡ compileOf (now (table .entry)) (now (plan .entry)) ⌝ }
+{
+    let starts = starts_of(table);
+    let lines = starts.lines;
+    let n = minus(lines, 1);
+    let words = put_plan(&mut plan[..0], table, starts, n);
+    if 4096 < words {
+        return Compiled::Refused(Refusal::LongPlan);
+    }
+    if plan.len() < words {
+        return Compiled::Refused(Refusal::ShortSlice);
+    }
+    put_plan(plan, table, starts, n);
+    let regions = region_total(table, starts, n);
+    Compiled::Written { words, regions }
+}
+
+// Compiles a table: writes its plan over the beginning of a slice, and answers the words and regions written, or the refusal of 1 to 18, the slice then unchanged.
+pub fn compile(table: &[u8], plan: &mut [i32]) -> Compiled
+    ensures { λ r. ⌜ compiling r (now (plan .exit)) ≡ compileOf (now (table .entry)) (now (plan .entry)) ⌝ }
+{
+    let answer = check_table(table);
+    match answer {
+        Answer::Long => Compiled::Refused(Refusal::LongTable),
+        Answer::Unended => Compiled::Refused(Refusal::OpenLine),
+        Answer::BadHead => Compiled::Refused(Refusal::BadHead),
+        Answer::BadLine { number, line } => Compiled::Refused(Refusal::BadLine { number, line }),
+        Answer::Names(named) => match named {
+            Named::Crowded { line } => Compiled::Refused(Refusal::Crowded { line }),
+            Named::Repeated { line } => Compiled::Refused(Refusal::TwinName { line }),
+            Named::Dead { line } => Compiled::Refused(Refusal::DeadReference { line }),
+            Named::Circled { line } => Compiled::Refused(Refusal::Circle { line }),
+            Named::Fine => compile_checked(table, plan),
+        },
+    }
+}

@@ -1,0 +1,2 @@
+-- Laws of counting by a table.
+pub mod CountLaws

@@ -1,0 +1,2 @@
+-- What counting by a table answers.
+pub mod Answers

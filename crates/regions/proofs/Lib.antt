@@ -1,0 +1,3 @@
+-- Laws of the regions of a table by number.
+pub mod PlaceLaws
+pub mod ReferenceLaws
