@@ -146,7 +146,8 @@ fn compile_checked(table: &[u8], plan: &mut [i32]) -> Compiled
     let starts = starts_of(table);
     let lines = starts.lines;
     let n = minus(lines, 1);
-    let words = put_plan(&mut plan[..0], table, starts, n);
+    let none = 0;
+    let words = put_plan(&mut plan[..none], table, starts, n);
     if 4096 < words {
         return Compiled::Refused(Refusal::LongPlan);
     }
