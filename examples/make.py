@@ -1,0 +1,136 @@
+#!/usr/bin/env python3
+"""Writes the inputs of this folder that hold many events.
+
+    examples/make.py            writes NAME.txt for each NAME below
+    examples/make.py NAME       prints one of them
+
+The events are made up, not measured: clusters of cells and beads on a 16 bit scale, drawn
+from a fixed seed. Only random() and whole numbers are used, so every run writes the same bytes.
+"""
+
+import os
+import random
+import sys
+
+HERE = os.path.dirname(os.path.abspath(__file__))
+SCALE = 65535
+
+# FSC, SSC, RED, ORANGE: the middle and the spread of each, then how far a bigger cell moves all four.
+CLUSTERS = {
+    'debris': ((2500, 2600, 2200, 1500), (900, 900, 900, 700), 400),
+    'prochlorococcus': ((8500, 6500, 14500, 2200), (900, 900, 1300, 600), 900),
+    'synechococcus': ((13500, 11500, 21500, 29500), (1000, 1000, 1300, 1800), 1100),
+    'picoeukaryotes': ((25000, 20500, 39500, 6000), (1700, 1700, 1800, 1100), 2200),
+    'cryptophytes': ((42000, 36500, 51000, 43500), (2000, 2200, 1700, 1900), 2000),
+    'beads': ((31000, 45000, 30500, 55500), (350, 350, 350, 350), 0),
+}
+
+
+def spread(rng):
+    """Nearly a normal deviate: twelve even ones added up."""
+    return sum(rng.random() for _ in range(12)) - 6
+
+
+def cell(rng, name):
+    middle, width, size = CLUSTERS[name]
+    bigger = size * spread(rng)
+    values = [round(m + w * spread(rng) + bigger) for m, w in zip(middle, width)]
+    return [min(max(value, 0), SCALE) for value in values]
+
+
+def sample(rng, numbers):
+    """Events of each cluster, shuffled as they would pass the laser."""
+    events = [cell(rng, name) for name, number in numbers.items() for _ in range(number)]
+    for at in range(len(events) - 1, 0, -1):
+        other = int(rng.random() * (at + 1))
+        events[at], events[other] = events[other], events[at]
+    return events
+
+
+def table(*lines):
+    """Table lines written with spaces, which stand for tabs."""
+    return [line.split() for line in lines]
+
+
+def quadrants(rng):
+    lines = table(
+        'dims FSC SSC RED ORANGE',
+        'quad Pigments Cells 2 RED 1 30000 ORANGE 1 16000'
+        ' Pro 15000 2000 Syn 22000 30000 PicoEuk 40000 6000 Crypto 50000 44000',
+        'quad Size Cells 2 FSC 2 11000 25000 ORANGE 1 16000'
+        ' Small 8000 2000 Middle 20000 2000 Large 30000 2000 Orange * 30000',
+        'rect Cells - FSC 4500 * RED 6000 *',
+    )
+    numbers = {'debris': 60, 'prochlorococcus': 120, 'synechococcus': 100, 'picoeukaryotes': 50, 'cryptophytes': 20}
+    # On a divider the event is on the upper side, one below it on the lower.
+    edge = [[8000, 7000, 30000, 16000], [8000, 7000, 29999, 16000], [8000, 7000, 30000, 15999]]
+    return lines, sample(rng, numbers) + edge
+
+
+def polygon(rng):
+    lines = table(
+        'dims FSC SSC RED ORANGE',
+        'poly Syn Cells RED ORANGE 17500 25000 22000 23500 27000 28500 27000 35000 21000 35500 17500 31000',
+        'poly Crypto Cells RED ORANGE 43000 36000 59000 36000 59000 51000 43000 51000',
+        'rect Cells - FSC 4500 * RED 6000 *',
+        'rect LargeSyn Syn FSC 14500 *',
+    )
+    numbers = {'debris': 50, 'prochlorococcus': 60, 'synechococcus': 140, 'picoeukaryotes': 40, 'cryptophytes': 30}
+    # A vertex, a point of an edge and one beside it; then a vertex again, outside the parent.
+    edge = [[12000, 10000, 22000, 23500], [12000, 10000, 27000, 30000], [12000, 10000, 27001, 30000],
+            [4499, 3000, 22000, 23500]]
+    return lines, sample(rng, numbers) + edge
+
+
+def ellipses(rng):
+    lines = table(
+        'dims FSC RED',
+        'ellip Pro - FSC RED 8500 14500 1620000 810000 2500000 9',
+        'ellip Syn - FSC RED 13500 21500 2210000 1210000 2900000 9',
+        'ellip PicoEuk - FSC RED 25000 39500 7730000 4840000 8080000 9',
+        'ellip Core PicoEuk FSC RED 25000 39500 7730000 4840000 8080000 1',
+    )
+    numbers = {'debris': 40, 'prochlorococcus': 150, 'synechococcus': 110, 'picoeukaryotes': 90}
+    events = [[fsc, red] for fsc, _, red, _ in sample(rng, numbers)]
+    return lines, events + [[25000, 39500]]
+
+
+def boolean(rng):
+    lines = table(
+        'dims FSC SSC RED ORANGE',
+        'and Syn Phyto OrangeHigh !Large',
+        'and Crypto Phyto OrangeHigh Large',
+        'not Rest Phyto Phycoerythrin',
+        'or Phycoerythrin - Syn Crypto',
+        'and Phyto - Cells !Beads',
+        'not Dim - Cells',
+        'rect Cells - FSC 4500 * RED 6000 *',
+        'rect OrangeHigh - ORANGE 16000 *',
+        'rect Large - FSC 30000 *',
+        'ellip Beads - SSC ORANGE 45000 55500 122500 0 122500 25',
+    )
+    numbers = {'debris': 50, 'prochlorococcus': 80, 'synechococcus': 80, 'picoeukaryotes': 40, 'cryptophytes': 25,
+               'beads': 60}
+    return lines, sample(rng, numbers)
+
+
+MADE = {'quadrants': quadrants, 'polygon': polygon, 'ellipses': ellipses, 'boolean': boolean}
+
+
+def text(name):
+    lines, events = MADE[name](random.Random('gate counter: ' + name))
+    rows = lines + [['events']] + [[str(value) for value in event] for event in events]
+    return ''.join('\t'.join(row) + '\n' for row in rows).encode()
+
+
+def main():
+    if sys.argv[1:]:
+        sys.stdout.buffer.write(text(sys.argv[1]))
+        return
+    for name in MADE:
+        with open(os.path.join(HERE, name + '.txt'), 'wb') as file:
+            file.write(text(name))
+
+
+if __name__ == '__main__':
+    main()
