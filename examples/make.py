@@ -104,6 +104,7 @@ def boolean(rng):
         'or Phycoerythrin - Syn Crypto',
         'and Phyto - Cells !Beads',
         'not Dim - Cells',
+        'and Other - !Syn !Crypto !Rest !Beads',
         'rect Cells - FSC 4500 * RED 6000 *',
         'rect OrangeHigh - ORANGE 16000 *',
         'rect Large - FSC 30000 *',
