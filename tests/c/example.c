@@ -1,7 +1,8 @@
 /*
- * The proved counter called from C: the worked example, one call of each kind, and every refusal with its place.
+ * The proved counter and compiler called from C: the worked example, one call of each kind, and the refusals with their places.
  * Prints 'N passed, M failed'; the exit status is 1 when one failed.
  */
+#include "gatecompile.h"
 #include "gatecount.h"
 
 #include <inttypes.h>
@@ -326,8 +327,51 @@ static void test_events(void) {
     expect(memcmp(out, none, sizeof out) == 0, "list of no event");
 }
 
+/* ---- Compiling ---- */
+
+enum { UNTOUCHED = 77777777 }; /* no word of a plan */
+
+static const char example_table[] =
+    "dims\tFSC\tSSC\n"
+    "rect\tLive\tRing\tFSC\t300\t600\n"
+    "ellip\tRing\t-\tFSC\tSSC\t400\t200\t40000\t0\t30625\t1\n"
+    "quad\tQ\tRing\t1\tFSC\t1\t400\tLo\t0\tHi\t500\n"
+    "and\tBoth\t-\tLive\t!Hi\n";
+
+/* Compiles into a slice of `room` words, expects the answer, and that every word behind the plan is as it was. */
+static void expect_compiled(const char *what, const char *table, size_t room, uint64_t refusal, uint64_t place, const int32_t *plan, size_t words,
+                            uint64_t regions) {
+    static int32_t slice[GATE_MAX_WORDS];
+    uint64_t out[GATE_COMPILE_OUT];
+    for (size_t i = 0; i < GATE_MAX_WORDS; i++) slice[i] = UNTOUCHED;
+    memset(out, 0xFF, sizeof out);
+    gate_compile((const uint8_t *)table, strlen(table), slice, room, out);
+    expect_number(out[GATE_COMPILE_REFUSAL], refusal, what);
+    expect_number(out[GATE_COMPILE_PLACE], place, what);
+    expect_number(out[GATE_COMPILE_WORDS], words, what);
+    expect_number(out[GATE_COMPILE_REGIONS], regions, what);
+    expect(words == 0 || memcmp(slice, plan, words * sizeof slice[0]) == 0, what);
+    size_t touched = 0;
+    for (size_t i = words; i < GATE_MAX_WORDS; i++) touched += slice[i] != UNTOUCHED;
+    expect_number(touched, 0, what);
+}
+
+static void test_compiling(void) {
+    static const int32_t head_alone[] = {1, 0};
+    expect_compiled("the worked example", example_table, GATE_MAX_WORDS, 0, 0, example, LENGTH(example), 5);
+    expect_compiled("a slice just long enough", example_table, LENGTH(example), 0, 0, example, LENGTH(example), 5);
+    for (size_t room = 0; room < LENGTH(example); room++) expect_compiled("short slice", example_table, room, 18, 0, NULL, 0, 0);
+    expect_compiled("a head alone", "dims\tA\n", 2, 0, 0, head_alone, 2, 0);
+    expect_compiled("no table", "", GATE_MAX_WORDS, 2, 0, NULL, 0, 0);
+    expect_compiled("open line", "dims\tA", GATE_MAX_WORDS, 2, 0, NULL, 0, 0);
+    expect_compiled("bad head", "dims\n", GATE_MAX_WORDS, 3, 1, NULL, 0, 0);
+    expect_compiled("unknown kind", "dims\tA\nbox\tX\t-\tA\t0\t1\n", GATE_MAX_WORDS, 4, 2, NULL, 0, 0);
+    expect_compiled("circle", "dims\tA\nnot\tIn\t-\tX\nnot\tX\t-\tY\nnot\tY\t-\tX\n", GATE_MAX_WORDS, 16, 3, NULL, 0, 0);
+}
+
 int main(void) {
     test_example();
+    test_compiling();
     test_shapes();
     test_all_regions();
     test_form();

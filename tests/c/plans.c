@@ -1,11 +1,12 @@
 /*
- * plans.c: answers the questions `check`, `judge` and `count` of tests/compare.py with the proved counter.
+ * plans.c: answers the questions of tests/compare.py with the proved counter and compiler.
  * The protocol stands at the top of that file.
  */
 #include <inttypes.h>
 #include <stdio.h>
 #include <string.h>
 
+#include "gatecompile.h"
 #include "gatecount.h"
 
 enum { MOST = 5000 };
@@ -25,10 +26,47 @@ static long list(int32_t *into)
     return length;
 }
 
+/* The question `compile`: 1 where its line is good. */
+static int compile(void)
+{
+    enum { SLICE = 9000, BYTES = 50000, UNTOUCHED = 77777777 };
+    static int32_t slice[SLICE];
+    static uint8_t table[BYTES];
+    static char digits[2 * BYTES + 1];
+    long room;
+    size_t length = 0;
+    if (scanf("%ld %100000s", &room, digits) != 2 || room < 0 || room > SLICE)
+        return 0;
+    if (strcmp(digits, "-") != 0)
+        for (; digits[2 * length]; length++) {
+            unsigned byte;
+            if (sscanf(&digits[2 * length], "%2x", &byte) != 1)
+                return 0;
+            table[length] = (uint8_t)byte;
+        }
+    for (long i = 0; i < SLICE; i++)
+        slice[i] = UNTOUCHED;
+    uint64_t out[GATE_COMPILE_OUT];
+    gate_compile(table, length, slice, (size_t)room, out);
+    size_t words = (size_t)out[GATE_COMPILE_WORDS], beyond = 0;
+    for (size_t i = words; i < SLICE; i++)
+        beyond += slice[i] != UNTOUCHED;
+    printf("%" PRIu64 " %" PRIu64 " %" PRIu64 " %" PRIu64 " %zu", out[0], out[1], out[2], out[3], beyond);
+    for (size_t i = 0; i < words; i++)
+        printf(" %" PRId32, slice[i]);
+    putchar('\n');
+    return 1;
+}
+
 int main(void)
 {
     char word[16];
     while (scanf("%15s", word) == 1) {
+        if (strcmp(word, "compile") == 0) {
+            if (!compile())
+                return 1;
+            continue;
+        }
         long words = list(plan);
         if (words < 0)
             return 1;

@@ -1,0 +1,2 @@
+-- Answers as numbers in a row.
+pub mod Answers
