@@ -7,7 +7,7 @@ use lib.IntN.{ℤ, pos}
 use lib.ListN.{length, getD, set, take, drop}
 use Rattle.text.specs.Lines.{lines, fields}
 use Rattle.text.specs.Output.{over}
-use Rattle.events.proofs.WritingLaws.{over-lent, over-from}
+use Rattle.text.proofs.WritingLaws.{over-lent, over-from}
 use Rattle.gates.specs.Gate.{Region}
 use Rattle.tables.specs.Head.{headFields, dimensions}
 use Rattle.tables.specs.Steps.{order, stepsWords, planWords}

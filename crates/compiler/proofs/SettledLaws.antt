@@ -33,7 +33,7 @@ use Rattle.regions.specs.Settled.{Settled}
 use Rattle.compiler.specs.Answers.{Unrefused}
 
 -- each gate of lines that pass has a region
-lines-regions : (head : List (List ℕ)) (ls : List (List ℕ)) → ((l : List ℕ) → l ∈ ls → lineRefusal head (fields l) ≡ noRefusal) → length ls ≤ length (regions (map (lineGate head) ls))
+pub lines-regions : (head : List (List ℕ)) (ls : List (List ℕ)) → ((l : List ℕ) → l ∈ ls → lineRefusal head (fields l) ≡ noRefusal) → length ls ≤ length (regions (map (lineGate head) ls))
 unfolding lineGate
 lines-regions head [] h = omega arith
 lines-regions head (l ∷ ls) h =

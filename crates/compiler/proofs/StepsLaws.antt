@@ -10,9 +10,8 @@ use lib.ListN.{length, take, drop, length-append, length-drop}
 use lib.Seq.{take-all, length-take-le}
 use Rattle.plans.specs.Indices.{firstBad}
 use Rattle.plans.specs.Bits.{withBit}
-use Rattle.text.specs.Output.{over}
-use Rattle.events.specs.Writing.{overFrom}
-use Rattle.events.proofs.WritingLaws.{over-from, take-more, drop-more}
+use Rattle.text.specs.Output.{over, overFrom}
+use Rattle.text.proofs.WritingLaws.{over-from, take-more, drop-more}
 use Rattle.gates.specs.Gate.{Region}
 use Rattle.tables.specs.Steps.{nextRegion, orderFrom, order, stepWords, stepsWords}
 use Rattle.tables.proofs.LoopLaws.{order-next, order-end}

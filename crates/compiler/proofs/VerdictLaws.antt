@@ -2,12 +2,12 @@
 use mathlib.Core.Path.{_≡_, refl, sym, ap, _∙_}
 use mathlib.Core.Bool.{Bool, true, false, not, cond}
 use mathlib.Core.List.{List, []}
-use Prim.Native.Nat.{ℕ, zero, suc, _+_, _-_, _<_, _≤_, min}
+use Prim.Native.Nat.{ℕ, _+_, _-_, _<_, _≤_, min}
 use native.Mathlib.Omega.{arith}
 use lib.Dec.{ltb, eqb}
 use lib.IntN.{ℤ, pos, negsuc}
 use lib.ListN.{length, getD}
-use borrow.Author.Tests.{ltb-false, lt-ltb, le-ltb, eqb-true, ne-eqb}
+use borrow.Author.Tests.{lt-ltb, le-ltb, eqb-true, ne-eqb}
 use Rattle.plans.specs.Indices.{firstBad}
 use Rattle.plans.specs.Refusals.{Verdict, passed, refused}
 use Rattle.text.specs.Numbers.{isNumber, numberValue, within}
@@ -22,10 +22,11 @@ use Rattle.gates.specs.declared.Rule.the-variants.{Free, Name, Parent, Operand,
 use Rattle.gates.specs.Kinds.{lineKind, isUnknown, isStar, isParent, isOperand}
 use Rattle.gates.specs.Rules.{noRefusal, unless, numberRefusal, optionalRefusal, rises, earned, fieldRefusal, fieldsRefusal, ruleOf, dimensionPasses}
 use Rattle.gates.specs.Refusal.{kindRefusal, lineRefusal, shapeGood, matrixPasses, tilingPasses}
-use Rattle.gates.specs.Gate.{regions}
+use Rattle.gates.specs.Gate.{Gate, regions}
 use Rattle.tables.specs.Head.{dimensions, headGood, gateLines, gates}
 use Rattle.tables.specs.Steps.{planWords}
-use Rattle.tables.specs.Refusals.{unlessLine, refusalAt, lineGood, always, uncrowded, unrepeated, living, uncircled, sizeVerdict, tableVerdict}
+use Rattle.tables.specs.Refusals.{unlessLine, refusalAt, lineGood, always, uncrowded, unrepeated, living, uncircled, sizeVerdict, gatesVerdict, tableVerdict}
+use Rattle.tables.proofs.Acceptance.{Accepted, passed-accepted}
 use Rattle.tables.specs.Compile.{Compiling, planOf, compiled, uncompiled, compileOf}
 use Rattle.resolve.specs.NamedVerdict.{namesVerdict}
 use Rattle.resolve.specs.declared.Named.the-variants.{Fine}
@@ -105,6 +106,47 @@ text-named text v l =
     (unless-line-named (always 15) (living t) (length t) _ (λ i. omega arith)
     (unless-line-named (always 16) (uncircled t) (length t) v (λ i. omega arith) l)))))))
 
+-- ---- a verdict with number 0 passes
+
+-- number 0 only where it passes
+abbrev Numbered : Verdict → Type 0
+Numbered v = v .number ≡ 0 → v ≡ passed
+
+cond-numbered : (c : Bool) (k place : ℕ) (v : Verdict) → 1 ≤ k → Numbered v → Numbered (cond c (refused k place) v)
+cond-numbered true k place v h f e = absurd (omega arith)
+cond-numbered false k place v h f e = f e
+
+line-numbered : (number : ℕ → ℕ) (good : ℕ → Bool) (k : ℕ) (v : Verdict) → ((i : ℕ) → 1 ≤ number i) → Numbered v → Numbered (unlessLine number good k v)
+unfolding unlessLine
+line-numbered number good k v h f = cond-numbered (ltb (firstBad good 0 k) k) (number (firstBad good 0 k)) (firstBad good 0 k + 2) v (h (firstBad good 0 k)) f
+
+size-numbered : (slice words : ℕ) → Numbered (sizeVerdict slice words)
+unfolding sizeVerdict
+size-numbered slice words =
+    cond-numbered (ltb 4096 words) 17 0 _ (omega arith) (cond-numbered (ltb slice words) 18 0 passed (omega arith) (λ e. refl))
+
+gates-numbered : (slice n : ℕ) (t : List Gate) → Numbered (gatesVerdict slice n t)
+unfolding gatesVerdict
+gates-numbered slice n t =
+    line-numbered (always 13) (uncrowded t) (length t) _ (λ i. omega arith)
+    (line-numbered (always 14) (unrepeated t) (length t) _ (λ i. omega arith)
+    (line-numbered (always 15) (living t) (length t) _ (λ i. omega arith)
+    (line-numbered (always 16) (uncircled t) (length t) _ (λ i. omega arith)
+    (size-numbered slice (length (planWords n (regions t)))))))
+
+pub verdict-numbered : (slice : ℕ) (text : List ℕ) → tableVerdict slice text .number ≡ 0 → tableVerdict slice text ≡ passed
+unfolding tableVerdict refusalAt
+verdict-numbered slice text =
+    cond-numbered (ltb 32768 (length text)) 1 0 _ (omega arith)
+    (cond-numbered (not (endsInLF text)) 2 0 _ (omega arith)
+    (cond-numbered (not (headGood text)) 3 1 _ (omega arith)
+    (line-numbered (refusalAt (dimensions text) (gateLines text)) (lineGood (dimensions text) (gateLines text)) (length (gateLines text)) _
+    (λ i. omega (arith, line-named (dimensions text) (fields (getD (gateLines text) i []))))
+    (gates-numbered slice (length (dimensions text)) (gates text)))))
+
+pub number-accepted : (slice : ℕ) (text : List ℕ) → tableVerdict slice text .number ≡ 0 → Accepted slice text
+number-accepted slice text e = passed-accepted slice text (verdict-numbered slice text e)
+
 -- ---- refused by 1 to 16
 
 module _ (text : List ℕ) (slice : List ℤ) where
@@ -148,26 +190,9 @@ module _ (text : List ℕ) (slice : List ℤ) {a : Answer} (h : (v : Verdict) �
 
 -- ---- the words written are words of the slice
 
-fits-by : (a b : Bool) → cond a (refused 17 0) (cond b (refused 18 0) passed) .number ≡ 0 → b ≡ false
-fits-by true b e = absurd (omega (arith, e))
-fits-by false true e = absurd (omega (arith, e))
-fits-by false false e = refl
-
-size-fits : (slice words : ℕ) → sizeVerdict slice words .number ≡ 0 → words ≤ slice
-unfolding sizeVerdict
-size-fits slice words e = ltb-false slice words (fits-by (ltb 4096 words) (ltb slice words) e)
-
 module _ (text : List ℕ) (slice : List ℤ) where
   plan-fits : tableVerdict (length slice) text .number ≡ 0 → length (planOf text) ≤ length slice
-  unfolding planOf
-  plan-fits e =
-      let words = length (planWords (length (dimensions text)) (regions (gates text))) in
-      let z : textVerdict text (sizeVerdict (length slice) words) .number ≡ 0 = ap (λ (w : Verdict). w .number) (sym (table-verdict (length slice) text)) ∙ e in
-      size-fits (length slice) words (low (sizeVerdict (length slice) words .number) (λ h. omega (arith, z, text-named text (sizeVerdict (length slice) words) h)))
-    where
-      low : (k : ℕ) → (1 ≤ k → ⊥) → k ≡ 0
-      low zero h = refl
-      low (suc k) h = absurd (h (omega arith))
+  plan-fits e = number-accepted (length slice) text e .slice-fits
 
   words-in : (b : Bool) → (b ≡ true → length (planOf text) ≤ length slice) → (v : Verdict) → cond b (compiled text slice v) (uncompiled slice v) .words ≤ length slice
   words-in true h v = h refl

@@ -2,8 +2,7 @@
 ghost use mathlib.Core.Path.{_≡_};
 ghost use Prim.Native.Nat.{_≤_, _<_};
 ghost use lib.ListN.{length};
-ghost use Rattle.text.specs.Output.{over};
-ghost use Rattle.events.specs.Writing.{overFrom};
+ghost use Rattle.text.specs.Output.{over, overFrom};
 ghost use Rattle.gates.specs.Gate.{regions};
 ghost use Rattle.tables.specs.Head.{dimensions};
 ghost use Rattle.tables.specs.Steps.{order, stepWords, stepsWords, planWords};

@@ -1,5 +1,4 @@
 -- Laws of the definitions.
-pub mod WritingLaws
 pub mod SearchLaws
 pub mod PartingLaws
 pub mod ListingLaws

@@ -12,15 +12,14 @@ use borrow.Author.Tests.{lt-ltb, le-ltb, eq-eqb, ne-eqb}
 use Rattle.text.specs.Bytes.{every, occurrences}
 use Rattle.text.specs.Numbers.{isNumber, readNumber}
 use Rattle.text.specs.Lines.{fields, lines, endsInLF, findFrom, lineFrom}
-use Rattle.text.specs.Output.{over}
+use Rattle.text.specs.Output.{over, overFrom}
 use Rattle.text.proofs.TestLaws.{and-false}
 use Rattle.text.proofs.BytesLaws.{every-fails, every-end}
 use Rattle.text.proofs.OutputLaws.{over-take}
 use Rattle.text.proofs.LinesLaws.{find-inside, lines-cut, lines-end, line-length}
 use Rattle.text.proofs.TextTheorems.{fields-count}
 use Rattle.events.specs.Listing.{isEvent, eventLines, badLine, valueOf, lineValues, values}
-use Rattle.events.specs.Writing.{overFrom}
-use Rattle.events.proofs.WritingLaws.{over-from, take-more, drop-more}
+use Rattle.text.proofs.WritingLaws.{over-from, take-more, drop-more}
 use Rattle.events.proofs.SearchLaws.{Passed, found-number, found-below, missing-number, missing-count}
 
 -- ── An event ──

@@ -4,20 +4,19 @@ use mathlib.Core.List.{List, [], _∷_, _++_, append-assoc}
 use Prim.Native.Nat.{ℕ, _+_}
 use native.Mathlib.Omega.{arith}
 use lib.ListN.{length, length-append}
-use Rattle.text.specs.Output.{decimal, over}
-use Rattle.events.specs.Writing.{overFrom}
+use Rattle.text.specs.Output.{decimal, over, overFrom}
 use Rattle.events.specs.Printing.{countLine}
-use Rattle.events.proofs.WritingLaws.{over-from}
+use Rattle.text.proofs.WritingLaws.{over-from}
 
 -- p, of length a, is written over d
-abbrev Written : List ℕ → List ℕ → ℕ → List ℕ → Type 0
+abbrev pub Written : List ℕ → List ℕ → ℕ → List ℕ → Type 0
 Written p d a x = (a ≡ length p) × (x ≡ over p d)
 
 -- q, of length c, is written from index a on
-abbrev WrittenFrom : ℕ → List ℕ → List ℕ → ℕ → List ℕ → Type 0
+abbrev pub WrittenFrom : ℕ → List ℕ → List ℕ → ℕ → List ℕ → Type 0
 WrittenFrom a q x c y = (c ≡ length q) × (y ≡ overFrom a q x)
 
-written-more : (p d q : List ℕ) {x y : List ℕ} {a c : ℕ} → Written p d a x → WrittenFrom a q x c y → Written (p ++ q) d (a + c) y
+pub written-more : (p d q : List ℕ) {x y : List ℕ} {a c : ℕ} → Written p d a x → WrittenFrom a q x c y → Written (p ++ q) d (a + c) y
 written-more p d q w v = (simp length-append (omega arith), over-from p d _ _ q _ (sym (w .0)) (w .1) (v .1))
 
 module _ (d : List ℕ) {x₁ x₂ x₃ x₄ : List ℕ} {a b c e : ℕ} where

@@ -2,9 +2,8 @@
 ghost use mathlib.Core.Path.{_≡_};
 ghost use Prim.Native.Nat.{_+_, _≤_};
 ghost use lib.ListN.{length, set, drop};
-ghost use Rattle.text.specs.Output.{over};
+ghost use Rattle.text.specs.Output.{over, overFrom};
 ghost use Rattle.events.specs.Listing.{isEvent, badLine, valueOf, lineValues, values, eventsOf, answerOf, listed};
-ghost use Rattle.events.specs.Writing.{overFrom};
 use crate::parting::split;
 use crate::writing::least;
 use text::lines::ends_in_lf;

@@ -1,9 +1,8 @@
 // The lines that `gatecount` prints, written into a slice that is lent.
 ghost use mathlib.Core.Path.{_≡_};
 ghost use lib.ListN.{length};
-ghost use Rattle.text.specs.Output.{decimal, over};
+ghost use Rattle.text.specs.Output.{decimal, over, overFrom};
 ghost use Rattle.events.specs.Printing.{countLine, takenLine, spoiltLine, refusedLine};
-ghost use Rattle.events.specs.Writing.{overFrom};
 use crate::writing::least;
 use text::output::put_bytes;
 use text::output::put_number;
@@ -34,18 +33,26 @@ pub fn put_count(rest: &mut [u8], name: &[u8], count: u64) -> usize
     c + put_bytes_from(rest, c, b"\n")
 }
 
-// The line `taken`.
-pub fn put_taken(rest: &mut [u8], count: u64) -> usize
-    ensures { λ r. ⌜ (r ≡ length (takenLine count)) × (now (rest .exit) ≡ over (takenLine count) (now (rest .entry))) ⌝ }
+// The same from index a on.
+pub fn put_count_from(rest: &mut [u8], a: usize, name: &[u8], count: u64) -> usize
+    ensures { λ r. ⌜ (r ≡ length (countLine (now (name .entry)) count)) × (now (rest .exit) ≡ overFrom a (countLine (now (name .entry)) count) (now (rest .entry))) ⌝ }
 {
-    put_count(rest, b"taken", count)
+    let b = least(a, rest.len());
+    put_count(&mut rest[b..], name, count)
 }
 
-// The line `spoilt`.
-pub fn put_spoilt(rest: &mut [u8], count: u64) -> usize
-    ensures { λ r. ⌜ (r ≡ length (spoiltLine count)) × (now (rest .exit) ≡ over (spoiltLine count) (now (rest .entry))) ⌝ }
+// The line `taken`, from index a on.
+pub fn put_taken(rest: &mut [u8], a: usize, count: u64) -> usize
+    ensures { λ r. ⌜ (r ≡ length (takenLine count)) × (now (rest .exit) ≡ overFrom a (takenLine count) (now (rest .entry))) ⌝ }
 {
-    put_count(rest, b"spoilt", count)
+    put_count_from(rest, a, b"taken", count)
+}
+
+// The line `spoilt`, from index a on.
+pub fn put_spoilt(rest: &mut [u8], a: usize, count: u64) -> usize
+    ensures { λ r. ⌜ (r ≡ length (spoiltLine count)) × (now (rest .exit) ≡ overFrom a (spoiltLine count) (now (rest .entry))) ⌝ }
+{
+    put_count_from(rest, a, b"spoilt", count)
 }
 
 // The line `refused` with a refusal's number and place.

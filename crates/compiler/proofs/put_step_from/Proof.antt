@@ -1,5 +1,5 @@
 -- `put_step_from`: the rest from `at` on is lent.
-use Rattle.events.proofs.WritingLaws.{over-lent}
+use Rattle.text.proofs.WritingLaws.{over-lent}
 use borrow.Author.Needs.{needs}
 use Rattle.compiler.proofs.put_step_from.Statement.{statement}
 use Rattle.compiler.proofs.put_step_from.Tie as tie

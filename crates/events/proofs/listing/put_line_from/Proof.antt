@@ -1,6 +1,6 @@
 -- `put_line_from`: the rest from a on is lent.
 use borrow.Author.Needs.{needs}
-use Rattle.events.proofs.WritingLaws.{over-lent}
+use Rattle.text.proofs.WritingLaws.{over-lent}
 use Rattle.events.proofs.listing.put_line_from.Statement.{statement}
 use Rattle.events.proofs.listing.put_line_from.Tie as tie
 

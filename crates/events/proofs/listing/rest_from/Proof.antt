@@ -2,7 +2,7 @@
 use mathlib.Core.Path.{_∙_}
 use borrow.Author.Needs.{needs}
 use Rattle.text.proofs.BytesLaws.{part-rest}
-use Rattle.events.proofs.WritingLaws.{drop-least}
+use Rattle.text.proofs.WritingLaws.{drop-least}
 use Rattle.events.proofs.listing.rest_from.Statement.{statement}
 use Rattle.events.proofs.listing.rest_from.Tie as tie
 

@@ -6,7 +6,7 @@ use Rattle.events.proofs.printing.put_spoilt.Tie as tie
 
 returns : tie.Need-returns
 unfolding spoiltLine
-returns c = c .before .before .put-count .ensures
+returns c = c .before .before .put-count-from .ensures
 
 pub put-spoilt-spec : {M : Type 1} → statement M
 put-spoilt-spec =

@@ -6,7 +6,7 @@ use Rattle.events.proofs.printing.put_taken.Tie as tie
 
 returns : tie.Need-returns
 unfolding takenLine
-returns c = c .before .before .put-count .ensures
+returns c = c .before .before .put-count-from .ensures
 
 pub put-taken-spec : {M : Type 1} → statement M
 put-taken-spec =
