@@ -6,7 +6,6 @@ use mathlib.Core.Path.{refl}
 use Prim.Native.Nat.{ℕ, _-_, _<_, _≤_}
 use native.Mathlib.Omega.{arith}
 use lib.Dec.{ltb}
-use lib.IntN.{ℤ}
 use lib.ListN.{length, getD, length-append, length-map, length-drop}
 use borrow.Author.Tests.{eqb-true}
 use Rattle.plans.specs.Refusals.{passed}
@@ -26,7 +25,7 @@ use Rattle.tables.proofs.RuleLaws.{Unrefused as Held, rules-hold}
 use Rattle.tables.proofs.Acceptance.{not-refused, unless-passed}
 use Rattle.tables.proofs.CompileLaws.{head-width}
 use Rattle.resolve.specs.NamedVerdict.{GoodLines, namesVerdict}
-use Rattle.resolve.specs.Reading.{lineAt, fieldsAt, gatesAt}
+use Rattle.resolve.specs.Reading.{fieldsAt, gatesAt}
 use Rattle.resolve.proofs.StartLaws.{Indexed, gates-read}
 use Rattle.tablecheck.specs.TextVerdict.{textVerdict}
 use Rattle.regions.specs.Settled.{Settled}

@@ -5,7 +5,7 @@ use mathlib.Core.List.{List, []}
 use Prim.Native.Nat.{ℕ, _+_, _-_, _<_, _≤_, min}
 use native.Mathlib.Omega.{arith}
 use lib.Dec.{ltb, eqb}
-use lib.IntN.{ℤ, pos, negsuc}
+use lib.IntN.{ℤ}
 use lib.ListN.{length, getD}
 use borrow.Author.Tests.{lt-ltb, le-ltb, eqb-true, ne-eqb}
 use Rattle.plans.specs.Indices.{firstBad}
@@ -20,7 +20,7 @@ use Rattle.gates.specs.declared.LineKind.{LineKind}
 use Rattle.gates.specs.declared.Rule.{Rule}
 use Rattle.gates.specs.declared.Rule.the-variants.{Free, Name, Parent, Operand, Dimension, Coordinate, Entry, Distance, Min, Max, Value, Rising, Representative}
 use Rattle.gates.specs.Kinds.{lineKind, isUnknown, isStar, isParent, isOperand}
-use Rattle.gates.specs.Rules.{noRefusal, unless, numberRefusal, optionalRefusal, rises, earned, fieldRefusal, fieldsRefusal, ruleOf, dimensionPasses}
+use Rattle.gates.specs.Rules.{noRefusal, unless, numberRefusal, optionalRefusal, rises, earned, fieldRefusal, fieldsRefusal, ruleOf}
 use Rattle.gates.specs.Refusal.{kindRefusal, lineRefusal, shapeGood, matrixPasses, tilingPasses}
 use Rattle.gates.specs.Gate.{Gate, regions}
 use Rattle.tables.specs.Head.{dimensions, headGood, gateLines, gates}

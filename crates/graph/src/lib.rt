@@ -16,6 +16,13 @@ pub struct Rows {
     pub bits: [u64; 64],
 }
 
+// Rows with no bit.
+pub fn no_rows() -> Rows
+    ensures { λ r. ⌜ length (r .bits) ≡ 64 ⌝ }
+{
+    Rows { bits: [0u64; 64] }
+}
+
 // Row i, and 0 where there is none.
 fn row_at(rows: &[u64; 64], i: usize) -> u64
     requires { ⌜ length (now rows) ≡ 64 ⌝ }

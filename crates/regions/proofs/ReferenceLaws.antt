@@ -1,7 +1,7 @@
 -- The regions that a region refers to, gathered field by field.
 use mathlib.Core.Path.{_≡_, refl, sym, ap, _∙_}
 use mathlib.Core.Bool.{Bool, true, false, cond}
-use mathlib.Core.Logic.{_⊎_, inl, inr, ⊎-elim}
+use mathlib.Core.Logic.{_⊎_, ⊎-elim}
 use mathlib.Core.List.{List, _++_}
 use Prim.Native.Nat.{ℕ, _+_, _<_, _≤_}
 use native.Mathlib.Omega.{arith}
@@ -16,7 +16,7 @@ use Rattle.text.proofs.TestLaws.{true≢false, passed-or-failed}
 use Rattle.gates.specs.declared.LineKind.{LineKind}
 use Rattle.gates.specs.declared.LineKind.the-variants.{Rect, Poly, Ellip, Quad, And, Or, Not, Unknown}
 use Rattle.gates.specs.Kinds.{fieldAt, lineKind}
-use Rattle.gates.specs.Gate.{Name, Region, regions}
+use Rattle.gates.specs.Gate.{Name, regions}
 use Rattle.gates.specs.Meaning.{bodyOf, parentOf, gateOf}
 use Rattle.gates.specs.Regions.{regionCount, shapeIn, regionShape}
 use Rattle.tables.specs.Table.{someOf, nthRegion, numberOf, operandNames, parentNames, bodyReferences, gateReferences, references}

@@ -13,6 +13,7 @@ ghost use Rattle.regions.specs.Settled.{Settled};
 use gatelines::regions::region_count;
 use gatelines::regions::region_name;
 use graph::Rows;
+use graph::no_rows;
 use names::has_reference;
 use names::reference;
 use names::reference_end;
@@ -76,12 +77,6 @@ fn region_row(text: &[u8], starts: Starts, n: usize, r: usize) -> u64
         k += 1;
     }
     row
-}
-
-fn no_rows() -> Rows
-    ensures { λ r. ⌜ length (r .bits) ≡ 64 ⌝ }
-{
-    Rows { bits: [0u64; 64] }
 }
 
 // The references of the regions of n gates, row by row.

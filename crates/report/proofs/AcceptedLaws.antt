@@ -1,40 +1,26 @@
 -- The gates of an accepted table are read through the places of its lines, and its regions have short names.
-use mathlib.Core.Path.{_≡_, refl, sym, ap, _∙_}
-use mathlib.Core.Bool.{Bool, true, false, not, cond, _&&_}
+use mathlib.Core.Path.{_≡_, sym, ap, _∙_}
 use mathlib.Core.List.{List, [], _∷_}
-use Prim.Native.Nat.{ℕ, _+_, _-_, _<_, _≤_}
+use Prim.Native.Nat.{ℕ, _-_, _<_, _≤_}
 use native.Mathlib.Omega.{arith}
-use lib.Dec.{ltb, leb}
 use lib.ListN.{length, getD, drop, length-drop}
-use borrow.Author.Tests.{leb-true}
-use Rattle.plans.specs.Indices.{firstBad}
-use Rattle.plans.specs.Refusals.{Verdict, passed, refused}
-use Rattle.text.specs.Bytes.{every}
-use Rattle.text.specs.Names.{isLetter, isNameByte, isName}
-use Rattle.text.specs.Lines.{fields, lines, endsInLF}
-use Rattle.text.proofs.TestLaws.{and-left, and-right}
-use Rattle.gates.specs.Gate.{Gate, Region, gateRegions, regions}
+use Rattle.text.specs.Lines.{fields, lines}
+use Rattle.text.proofs.NamesLaws.{name-length}
+use Rattle.gates.specs.Gate.{Region, gateRegions, regions}
 use Rattle.gates.specs.Meaning.{gateOf}
 use Rattle.gates.specs.Regions.{regionCount, regionName}
 use Rattle.gates.proofs.GateLaws.{region-count, region-at, region-name}
 use Rattle.tables.specs.Table.{_∈_, noRegion, nthRegion}
-use Rattle.tables.specs.Head.{headFields, dimensions, headGood, gateLines, lineGate, gates}
-use Rattle.tables.specs.Refusals.{unlessLine, refusalAt, lineGood, always, uncrowded, unrepeated, living, uncircled, sizeVerdict, gatesVerdict, tableVerdict}
-use Rattle.tables.specs.Steps.{planWords}
+use Rattle.tables.specs.Head.{headFields, dimensions, gateLines, lineGate, gates}
 use Rattle.tables.proofs.ListLaws.{map-from, at-in, index-of}
 use Rattle.tables.proofs.GateLaws.{gate-of-region}
-use Rattle.tables.proofs.Acceptance.{Accepted, passed-accepted}
+use Rattle.tables.proofs.Acceptance.{Accepted}
 use Rattle.tables.proofs.CompileLaws.{head-width}
 use Rattle.resolve.specs.Reading.{gatesAt}
 use Rattle.resolve.proofs.StartLaws.{Indexed, gates-read}
 use Rattle.compiler.proofs.SettledLaws.{lines-regions}
 
 -- ---- the regions of an accepted table
-
-name-short : (s : List ℕ) → isName s ≡ true → length s ≤ 16
-unfolding isName
-name-short s e =
-    leb-true (length s) 16 (and-right (leb 1 (length s)) (leb (length s) 16) (and-left (leb 1 (length s) && leb (length s) 16) (isLetter (getD s 0 0) && every isNameByte s) e))
 
 module _ (slice : ℕ) (text : List ℕ) (a : Accepted slice text) where
   region-short : (r : Region) → r ∈ regions (gates text) → length (r .name) ≤ 16
@@ -47,7 +33,7 @@ module _ (slice : ℕ) (text : List ℕ) (a : Accepted slice text) where
       let i = index-of noRegion (gateRegions (gateOf (dimensions text) fs)) k in
       let q : i .0 < regionCount fs = rw (region-count (dimensions text) fs) at (i .1) in
       let e : r .name ≡ regionName fs (i .0) = ap (λ (x : Region). x .name) (sym (i .2) ∙ region-at (dimensions text) fs (i .0) noRegion q) in
-      rw e (name-short (regionName fs (i .0)) (region-name (dimensions text) fs (a .lines-good (l .0) (l .1)) (i .0) q))
+      rw e (name-length (regionName fs (i .0)) (region-name (dimensions text) fs (a .lines-good (l .0) (l .1)) (i .0) q) .1)
 
   pub names-short : (k : ℕ) → k < length (regions (gates text)) → length (nthRegion (regions (gates text)) k .name) ≤ 16
   unfolding nthRegion

@@ -21,6 +21,7 @@ use gatefields::fields::lesser;
 use gatefields::fields::minus;
 use gatelines::regions::region_count;
 use graph::Rows;
+use graph::no_rows;
 use graph::reach;
 use names::find_region;
 use names::has_reference;
@@ -225,12 +226,6 @@ fn gate_row(text: &[u8], starts: Starts, n: usize, i: usize) -> u64
         j += 1;
     }
     row
-}
-
-fn no_rows() -> Rows
-    ensures { λ r. ⌜ length (r .bits) ≡ 64 ⌝ }
-{
-    Rows { bits: [0u64; 64] }
 }
 
 // The references of n gates, row by row, where they are at most 64.

@@ -5,7 +5,7 @@ use mathlib.Core.List.{List, Memᴰ·append-left, List·Memᴰ·head as here, Li
 use Prim.Native.Nat.{ℕ, _/_, _%_, _<_, _≤_}
 use native.Mathlib.Omega.{arith}
 use lib.IntN.{ℤ}
-use lib.ListN.{length, getD, take}
+use lib.ListN.{length, getD}
 use Rattle.plans.specs.Indices.{howMany}
 use Rattle.plans.specs.Refusals.{passed}
 use Rattle.plans.specs.Form.{width, checkOf}

@@ -1,5 +1,5 @@
 use Rattle.gates.specs.Rules.{dividerRule}
-use Rattle.text.proofs.TestLaws.{tests}
+use Rattle.integers.proofs.Rules.{tests}
 use Rattle.gaterules.proofs.divider_rule.Statement.{statement}
 use Rattle.gaterules.proofs.divider_rule.Tie as tie
 

@@ -1,5 +1,5 @@
 use Rattle.gates.specs.Rules.{ellipRule}
-use Rattle.text.proofs.TestLaws.{tests}
+use Rattle.integers.proofs.Rules.{tests}
 use Rattle.gaterules.proofs.ellip_rule.Statement.{statement}
 use Rattle.gaterules.proofs.ellip_rule.Tie as tie
 

@@ -3,7 +3,7 @@ use borrow.Author.Tests.{lt-ltb, le-ltb, lt-leb, eq-eqb, ne-eqb}
 use mathlib.Core.Path.{_≡_}
 use Prim.Native.Nat.{min}
 use Rattle.gates.specs.Rules.{quadRule}
-use Rattle.text.proofs.TestLaws.{tests}
+use Rattle.integers.proofs.Rules.{tests}
 use borrow.Author.Needs.{needs}
 use Rattle.gaterules.proofs.quad_rule.Statement.{statement}
 use Rattle.gaterules.proofs.quad_rule.Tie as tie

@@ -1,5 +1,5 @@
 use Rattle.gates.specs.Rules.{rectRule}
-use Rattle.text.proofs.TestLaws.{tests}
+use Rattle.integers.proofs.Rules.{tests}
 use Rattle.gaterules.proofs.rect_rule.Statement.{statement}
 use Rattle.gaterules.proofs.rect_rule.Tie as tie
 

@@ -1,7 +1,7 @@
 use Rattle.text.specs.Lines.{fields}
 use Rattle.gates.specs.Rules.{ruleOf}
 use Rattle.gates.specs.declared.LineKind.the-variants.{Rect, Poly, Ellip, And, Or, Not, Unknown}
-use Rattle.text.proofs.TestLaws.{tests}
+use Rattle.integers.proofs.Rules.{tests}
 use Rattle.gaterules.proofs.RuleLaws.{rule-later, rule-quad}
 use borrow.Author.Needs.{needs}
 use Rattle.gaterules.proofs.rule_of.Statement.{statement}

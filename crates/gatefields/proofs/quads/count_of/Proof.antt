@@ -2,7 +2,7 @@ use native.Mathlib.Omega.{arith}
 use borrow.Author.Tests.{eq-eqb, le-leb}
 use Rattle.gates.specs.Quads.{countOf}
 use Rattle.plans.specs.Form.{spans}
-use Rattle.text.proofs.TestLaws.{tests}
+use Rattle.integers.proofs.Rules.{tests}
 use borrow.Author.Needs.{needs}
 use Rattle.gatefields.proofs.quads.count_of.Statement.{statement}
 use Rattle.gatefields.proofs.quads.count_of.Tie as tie

@@ -1,0 +1,122 @@
+#!/usr/bin/env python3
+"""Examples of Gating-ML 2.0, with members worked out by hand, through gatecount.
+
+    tests/vectors.py [--gatecount COMMAND]
+
+Each event goes through gatecount alone, so that its counts tell of which regions it is a member. The numbers of a vector are those of the
+document's example; what an example has and a table has not (transformed scales, and the parents that need them) is left out. Where a number of
+an example is not whole, all are multiplied; the heading says by what. The last line is 'N passed, M failed'.
+"""
+
+import argparse
+import shlex
+import subprocess
+
+# heading, table (spaces for tabs), events: values and the regions that hold them
+VECTORS = [
+    ('example 14, a box over three dimensions, one of them without a maximum: minima are inside, maxima are not',
+     ['dims FSC-H SSC-H FL1-H',
+      'rect Rect3D - FSC-H 100 250 SSC-H 50 * FL1-H 0 300'],
+     [('100 50 0', 'Rect3D'), ('249 50 299', 'Rect3D'), ('100 65535 0', 'Rect3D'), ('250 60 10', ''), ('99 50 0', ''), ('100 49 0', ''),
+      ('100 50 300', ''), ('100 50 -1', '')]),
+
+    ('example 15, a triangle; its long side is y = 3/4 x',
+     ['dims FSC-H SSC-H',
+      'poly Triangle - FSC-H SSC-H 0 0 400 0 400 300'],
+     [('0 0', 'Triangle'), ('400 0', 'Triangle'), ('400 300', 'Triangle'), ('200 0', 'Triangle'), ('200 150', 'Triangle'), ('200 149', 'Triangle'),
+      ('300 100', 'Triangle'), ('200 151', ''), ('401 100', ''), ('100 -1', ''), ('400 301', '')]),
+
+    ('example 17, an outline that crosses itself at (100, 100): two triangles that meet there',
+     ['dims FSC-H SSC-H',
+      'poly NonSimple - FSC-H SSC-H 50 50 150 50 50 150 150 150'],
+     [('100 60', 'NonSimple'), ('100 140', 'NonSimple'), ('100 100', 'NonSimple'), ('75 75', 'NonSimple'), ('125 75', 'NonSimple'),
+      ('100 50', 'NonSimple'), ('50 50', 'NonSimple'), ('150 150', 'NonSimple'), ('60 100', ''), ('140 100', ''), ('99 100', ''), ('100 49', '')]),
+
+    ('example 18, an ellipse with axes of 200 and 175',
+     ['dims FSC-H SSC-H',
+      'ellip myEllipse - FSC-H SSC-H 400 200 40000 0 30625 1'],
+     [('400 200', 'myEllipse'), ('600 200', 'myEllipse'), ('200 200', 'myEllipse'), ('400 375', 'myEllipse'), ('400 25', 'myEllipse'),
+      ('541 324', 'myEllipse'), ('542 324', ''), ('601 200', ''), ('400 24', ''), ('400 376', '')]),
+
+    ('example 19, an ellipse turned by -45 degrees, its numbers doubled: axes of 74 along (1, -1) and 60 along (1, 1)',
+     ['dims FSC-H SSC-H',
+      'ellip myEllipse2 - FSC-H SSC-H 80 80 4538 -938 4538 1'],
+     [('80 80', 'myEllipse2'), ('132 28', 'myEllipse2'), ('28 132', 'myEllipse2'), ('122 122', 'myEllipse2'), ('38 38', 'myEllipse2'),
+      ('133 27', ''), ('27 133', ''), ('123 123', ''), ('37 37', '')]),
+
+    ('example 21, six quadrants',
+     ['dims FSC-H SSC-H',
+      'quad myQuadrantGate - 2 FSC-H 2 500 1000 SSC-H 1 400 Q1 200 600 Q2 600 600 Q3 1700 600 Q4 200 200 Q5 600 200 Q6 1700 200'],
+     [('499 400', 'Q1'), ('-5 1000', 'Q1'), ('500 400', 'Q2'), ('999 400', 'Q2'), ('1000 400', 'Q3'), ('499 399', 'Q4'), ('500 399', 'Q5'),
+      ('999 -65536', 'Q5'), ('1000 399', 'Q6'), ('65535 399', 'Q6')]),
+
+    ('example 22, a dimension cut at two values',
+     ['dims FL4-W',
+      'quad myQuadrantGate2 - 1 FL4-W 2 10 100 FL4Neg 0 FL4Dim 50 FL4Pos 500'],
+     [('9', 'FL4Neg'), ('-65536', 'FL4Neg'), ('10', 'FL4Dim'), ('99', 'FL4Dim'), ('100', 'FL4Pos'), ('65535', 'FL4Pos')]),
+
+    ('example 23, its numbers times 100: no quadrant has FL2 below 0, so these do not tile, and the table is refused',
+     ['dims FL1-A FL2-A',
+      'quad myQuadrantGate3 - 2 FL1-A 1 50 FL2-A 2 0 25 CS1 * 100 CS2 10 10 CS3 60 10'],
+     'refused 12 2'),
+
+    ('example 23, with a fourth quadrant for FL2 below 0',
+     ['dims FL1-A FL2-A',
+      'quad myQuadrantGate3 - 2 FL1-A 1 50 FL2-A 2 0 25 CS1 * 100 CS2 10 10 CS3 60 10 CS4 * -1'],
+     [('49 25', 'CS1'), ('50 25', 'CS1'), ('49 24', 'CS2'), ('49 0', 'CS2'), ('50 24', 'CS3'), ('50 0', 'CS3'), ('49 -1', 'CS4'), ('50 -1', 'CS4')]),
+
+    ('examples 24 and 25, a box or an ellipse with axes of 10 and 5, and what is in neither',
+     ['dims FSC-H SSC-H',
+      'not myBoolean2 - myBoolean',
+      'or myBoolean - R1 E1',
+      'rect R1 - FSC-H 10 30 SSC-H 10 20',
+      'ellip E1 - FSC-H SSC-H 30 15 100 0 25 1'],
+     [('10 10', 'R1 myBoolean'), ('20 19', 'R1 myBoolean'), ('20 15', 'R1 E1 myBoolean'), ('30 10', 'E1 myBoolean'), ('40 15', 'E1 myBoolean'),
+      ('30 20', 'E1 myBoolean'), ('41 15', 'myBoolean2'), ('9 15', 'myBoolean2'), ('25 20', 'myBoolean2'), ('30 21', 'myBoolean2')]),
+
+    ('example 26, an `and` with one operand used as complement, without the pentagon, whose scale is logarithmic; its parent is a range from 100 on',
+     ['dims FSC-H SSC-H FL4-W',
+      'rect Range - FSC-H 100 *',
+      'and myBoolean3 Range myEllipse !FL4Dim',
+      'ellip myEllipse - FSC-H SSC-H 400 200 40000 0 30625 1',
+      'quad myQuadrantGate2 - 1 FL4-W 2 10 100 FL4Neg 0 FL4Dim 50 FL4Pos 500'],
+     [('400 200 9', 'Range myEllipse FL4Neg myBoolean3'), ('400 200 10', 'Range myEllipse FL4Dim'), ('400 200 100', 'Range myEllipse FL4Pos myBoolean3'),
+      ('600 200 9', 'Range myEllipse FL4Neg myBoolean3'), ('601 200 9', 'Range FL4Neg'), ('99 200 9', 'FL4Neg')]),
+]
+
+
+def report(command, lines):
+    text = '\n'.join(lines).replace(' ', '\t') + '\n'
+    done = subprocess.run(command, input=text.encode(), stdout=subprocess.PIPE, timeout=60)
+    return done.stdout.decode().replace('\t', ' ').splitlines()
+
+
+def main():
+    parser = argparse.ArgumentParser(description=__doc__.split('\n')[0])
+    parser.add_argument('--gatecount', type=shlex.split, default=['target/bin/gatecount'], metavar='COMMAND')
+    command = parser.parse_args().gatecount
+    passed = failed = 0
+
+    def expect(what, wanted, found):
+        nonlocal passed, failed
+        if wanted == found:
+            passed += 1
+        else:
+            failed += 1
+            print('FAILED %s: %s expected, %s found' % (what, wanted, found))
+
+    for heading, table, events in VECTORS:
+        if isinstance(events, str):
+            expect(heading, [events], report(command, table))
+            continue
+        for event, holders in events:
+            lines = report(command, table + ['events', event])
+            expect('%s, taken, of %s' % (event, heading), ['taken 1', 'spoilt 0'], lines[-2:])
+            members = sorted(line.split()[0] for line in lines[:-2] if line.split()[1] == '1')
+            expect('%s of %s' % (event, heading), sorted(holders.split()), members)
+    print('%d passed, %d failed' % (passed, failed))
+    return failed != 0
+
+
+if __name__ == '__main__':
+    raise SystemExit(main())
