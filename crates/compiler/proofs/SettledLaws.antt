@@ -28,7 +28,7 @@ use Rattle.resolve.specs.NamedVerdict.{GoodLines, namesVerdict}
 use Rattle.resolve.specs.Reading.{fieldsAt, gatesAt}
 use Rattle.resolve.proofs.StartLaws.{Indexed, gates-read}
 use Rattle.tablecheck.specs.TextVerdict.{textVerdict}
-use Rattle.regions.specs.Settled.{Settled}
+use Rattle.tableregions.specs.Settled.{Settled}
 use Rattle.compiler.specs.Answers.{Unrefused}
 
 -- each gate of lines that pass has a region

@@ -8,7 +8,7 @@ ghost use Rattle.tables.specs.Head.{dimensions};
 ghost use Rattle.tables.specs.Steps.{order, stepWords, stepsWords, planWords};
 ghost use Rattle.tables.specs.Compile.{compileOf};
 ghost use Rattle.resolve.specs.Reading.{gatesAt};
-ghost use Rattle.regions.specs.Settled.{Settled};
+ghost use Rattle.tableregions.specs.Settled.{Settled};
 ghost use Rattle.compiler.specs.Answers.{refusal, compiling, Unrefused};
 use gatefields::fields::lesser;
 use gatefields::fields::minus;
@@ -16,15 +16,15 @@ use gatefields::fields::name_count;
 use graph::next_row;
 use heads::head_line;
 use plans::bits::with_bit;
-use regions::locate;
-use regions::region_rows;
 use resolve::Named;
 use resolve::Starts;
 use resolve::region_total;
 use resolve::starts_of;
-use steps::put_step;
+use stepwriter::put_step;
 use tablecheck::Answer;
 use tablecheck::check_table;
+use tableregions::locate;
+use tableregions::region_rows;
 use writer::put_number;
 
 // Why a table is refused, with its line.

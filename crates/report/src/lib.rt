@@ -29,9 +29,9 @@ use events::printing::put_taken;
 use gatefields::fields::name_count;
 use heads::head_line;
 use plans::Checked;
-use regions::name_at;
 use resolve::Starts;
 use resolve::starts_of;
+use tableregions::name_at;
 
 // The count of region r.
 fn count_at(tally: Tally, r: usize) -> u64

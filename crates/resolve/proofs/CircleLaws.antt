@@ -14,7 +14,7 @@ use Rattle.tables.specs.Head.{dimensions}
 use Rattle.tables.specs.Reaching.{refersTo, refersAt, reachesBy, reachesItself}
 use Rattle.tables.specs.Refusals.{uncircled}
 use Rattle.graph.specs.Rows.{bitAt}
-use Rattle.names.proofs.LineLaws.{refers-line}
+use Rattle.linenames.proofs.LineLaws.{refers-line}
 use Rattle.resolve.specs.Reading.{fieldsAt, gatesAt, refersBy}
 use Rattle.resolve.proofs.ReadLaws.{gates-nth, gates-length}
 

@@ -14,8 +14,8 @@ use Rattle.tables.specs.Table.{nthGate, gateReferences, numberOf}
 use Rattle.tables.specs.Head.{dimensions}
 use Rattle.tables.specs.Refusals.{isRegion, living}
 use Rattle.tables.proofs.ListLaws.{every-at, every-of, unless}
-use Rattle.names.specs.LineNames.{referenceEnd, hasReference, referenceAt}
-use Rattle.names.proofs.LineLaws.{reference-in, in-reference}
+use Rattle.linenames.specs.LineNames.{referenceEnd, hasReference, referenceAt}
+use Rattle.linenames.proofs.LineLaws.{reference-in, in-reference}
 use Rattle.resolve.specs.Reading.{lineAt, fieldsAt, gatesAt}
 use Rattle.resolve.proofs.ReadLaws.{gateAt, gates-nth}
 

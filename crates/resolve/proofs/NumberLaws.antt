@@ -14,7 +14,7 @@ use Rattle.text.specs.Bytes.{same}
 use Rattle.gates.specs.Gate.{Name, regions}
 use Rattle.gates.specs.Regions.{regionCount}
 use Rattle.tables.specs.Table.{otherName, numberOf}
-use Rattle.names.specs.LineNames.{otherRegion, regionNamed}
+use Rattle.linenames.specs.LineNames.{otherRegion, regionNamed}
 use Rattle.resolve.specs.Reading.{lineAt, fieldsAt, gatesAt}
 use Rattle.resolve.proofs.ReadLaws.{count-more, count-fits, region-named}
 

@@ -11,7 +11,7 @@ use Rattle.plans.specs.Bits.{hasBit, withBit}
 use Rattle.plans.proofs.BitLaws.{has-with-same, has-with-other}
 use Rattle.text.specs.Lines.{fields}
 use Rattle.tables.proofs.OrderLaws.{no-bit}
-use Rattle.names.specs.LineNames.{refersLine}
+use Rattle.linenames.specs.LineNames.{refersLine}
 use Rattle.resolve.specs.Reading.{lineAt, fieldsAt, refersBy}
 
 -- the first k bits of a row are a test's

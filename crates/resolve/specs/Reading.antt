@@ -8,7 +8,7 @@ use Rattle.text.specs.Bounded.{tab}
 use Rattle.text.specs.Lines.{fields, lineFrom}
 use Rattle.gates.specs.Gate.{Gate}
 use Rattle.tables.specs.Head.{dimensions, lineGate}
-use Rattle.names.specs.LineNames.{ownDifferent, sharesName, refersLine}
+use Rattle.linenames.specs.LineNames.{ownDifferent, sharesName, refersLine}
 
 -- gate line i, whose place stands behind that of the head
 unfoldable pub lineAt : List ℕ → List ℕ → ℕ → List ℕ

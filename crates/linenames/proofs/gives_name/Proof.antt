@@ -1,0 +1,26 @@
+-- `gives_name`.
+use Rattle.linenames.specs.LineNames.{givesName}
+use borrow.Author.Needs.{needs}
+use Rattle.linenames.proofs.gives_name.Statement.{statement}
+use Rattle.linenames.proofs.gives_name.Tie as tie
+
+field-requires : tie.Need-field-requires
+field-requires c κs = search needs
+
+same-requires : tie.Need-same-requires
+same-requires c κs = search needs
+
+find-quadrant-requires : tie.Need-find-quadrant-requires
+find-quadrant-requires c κs = search needs
+
+quad-count-requires : tie.Need-quad-count-requires
+quad-count-requires c κs = search needs
+
+returns : tie.Need-returns
+unfolding givesName
+returns c = rw (c .quad-count .ensures, c .before .find-quadrant .ensures, c .before .before .same .ensures, c .before .before .before .field .ensures)
+
+pub gives-name-spec : {M : Type 1} → statement M
+gives-name-spec =
+    tie.close
+    (tie.spec field-requires same-requires find-quadrant-requires quad-count-requires returns)

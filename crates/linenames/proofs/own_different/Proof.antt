@@ -1,0 +1,61 @@
+-- `own_different`.
+use Rattle.linenames.specs.LineNames.{newQuadrant, quadCount, ownDifferent}
+use Rattle.text.specs.Lines.{fields}
+use Rattle.plans.proofs.IndexLaws.{all-more, all-stop}
+use Rattle.plans.specs.Indices.{all}
+use borrow.Author.Tests.{not-true, not-false}
+use borrow.Author.Needs.{needs}
+use native.Mathlib.Omega.{arith}
+use Prim.Native.Nat.{_-_, _≤_}
+use mathlib.Core.Bool.{true}
+use mathlib.Core.Path.{_≡_, refl, sym, _∙_}
+use Rattle.linenames.proofs.own_different.Statement.{statement}
+use Rattle.linenames.proofs.own_different.Tie as tie
+
+abbrev Inv-loop : tie.InvT-loop
+Inv-loop line n q₀ q = (q ≤ n) × (all (newQuadrant (fields line)) q ≡ true)
+
+abbrev μ-loop : tie.MeasureT-loop
+μ-loop line n q₀ q = n - q
+
+quad-count-requires : tie.Need-quad-count-requires Inv-loop μ-loop
+quad-count-requires c κs = search needs
+
+loop-holds : tie.Need-loop-holds Inv-loop μ-loop
+unfolding all
+loop-holds c = (search needs, refl)
+
+new-quadrant-requires : tie.Need-new-quadrant-requires Inv-loop μ-loop
+new-quadrant-requires c κs = search needs
+
+returns : tie.Need-returns Inv-loop μ-loop
+unfolding ownDifferent
+returns c = let f = fields (c .before .before .before .before .before .before .args .line .now) in sym (all-stop (newQuadrant f) (quadCount f) (c .before .before .before .loop .q) (rw (← c .before .before .before .before .quad-count .ensures) (c .before .before .loop-test .taken)) (sym (c .before .new-quadrant .ensures) ∙ not-true _ (c .if1 .taken)))
+
+add-q : tie.Need-add-q Inv-loop μ-loop
+add-q c = search needs
+
+loop-less : tie.Need-loop-less Inv-loop μ-loop
+loop-less c = search needs
+
+loop-again : tie.Need-loop-again Inv-loop μ-loop
+loop-again c = let f = fields (c .before .before .before .before .before .before .args .line .now) in (search needs, all-more (newQuadrant f) (c .before .before .before .loop .q) (c .before .before .before .loop .inv .1) (sym (c .before .new-quadrant .ensures) ∙ not-false _ (c .if1 .left)))
+
+returns-2 : tie.Need-returns-2 Inv-loop μ-loop
+unfolding ownDifferent
+returns-2 c = let h = c .loop-test .left in let i = c .before .loop .inv .0 in let e : c .before .before .quad-count .result ≡ c .before .loop .q = omega arith in sym (rw (← c .before .before .quad-count .ensures, e) (c .before .loop .inv .1))
+
+pub own-different-spec : {M : Type 1} → statement M
+own-different-spec =
+    tie.close
+    (tie.spec
+    Inv-loop
+    μ-loop
+    quad-count-requires
+    loop-holds
+    new-quadrant-requires
+    returns
+    add-q
+    loop-less
+    loop-again
+    returns-2)

@@ -1,0 +1,75 @@
+-- `shares_name`.
+use Rattle.linenames.proofs.SearchLaws.{shared-is, shared-gate, shared-rest}
+use Rattle.linenames.specs.LineNames.{sharesQuadrant, quadCount}
+use Rattle.text.specs.Lines.{fields}
+use Rattle.plans.proofs.IndexLaws.{any-more, any-stop}
+use Rattle.plans.specs.Indices.{any}
+use borrow.Author.Needs.{needs}
+use native.Mathlib.Omega.{arith}
+use Prim.Native.Nat.{_-_, _≤_}
+use mathlib.Core.Bool.{false}
+use mathlib.Core.Path.{_≡_, refl, sym, _∙_}
+use Rattle.linenames.proofs.shares_name.Statement.{statement}
+use Rattle.linenames.proofs.shares_name.Tie as tie
+
+abbrev Inv-loop : tie.InvT-loop
+Inv-loop line other n q₀ q = (q ≤ n) × (any (sharesQuadrant (fields line) (fields other)) q ≡ false)
+
+abbrev μ-loop : tie.MeasureT-loop
+μ-loop line other n q₀ q = n - q
+
+field-requires : tie.Need-field-requires Inv-loop μ-loop
+field-requires c κs = search needs
+
+gives-name-requires : tie.Need-gives-name-requires Inv-loop μ-loop
+gives-name-requires c κs = search needs
+
+returns : tie.Need-returns Inv-loop μ-loop
+returns c = shared-gate (fields (c .before .before .before .before .before .args .line .now)) (fields (c .before .before .before .before .before .args .other .now)) (c .before .before .field .ensures) (c .before .gives-name .ensures) (c .if1 .taken)
+
+quad-count-requires : tie.Need-quad-count-requires Inv-loop μ-loop
+quad-count-requires c κs = search needs
+
+loop-holds : tie.Need-loop-holds Inv-loop μ-loop
+unfolding any
+loop-holds c = (search needs, refl)
+
+quadrant-name-requires : tie.Need-quadrant-name-requires Inv-loop μ-loop
+quadrant-name-requires c κs = search needs
+
+gives-name-requires-2 : tie.Need-gives-name-requires-2 Inv-loop μ-loop
+gives-name-requires-2 c κs = search needs
+
+returns-2 : tie.Need-returns-2 Inv-loop μ-loop
+returns-2 c = let f = fields (c .before .before .before .before .before .before .before .before .before .before .before .args .line .now) in let g = fields (c .before .before .before .before .before .before .before .before .before .before .before .args .other .now) in sym (shared-rest f g (c .before .before .before .before .before .before .before .before .field .ensures) (c .before .before .before .before .before .before .before .gives-name .ensures) (c .before .before .before .before .before .before .if1 .left) ∙ any-stop (sharesQuadrant f g) (quadCount f) (c .before .before .before .before .loop .q) (rw (← c .before .before .before .before .before .quad-count .ensures) (c .before .before .before .loop-test .taken)) (shared-is f (c .before .before .before .before .loop .q) g (c .before .before .quadrant-name .ensures) (c .before .gives-name2 .ensures) (c .if2 .taken)))
+
+add-q : tie.Need-add-q Inv-loop μ-loop
+add-q c = search needs
+
+loop-less : tie.Need-loop-less Inv-loop μ-loop
+loop-less c = search needs
+
+loop-again : tie.Need-loop-again Inv-loop μ-loop
+loop-again c = let f = fields (c .before .before .before .before .before .before .before .before .before .before .before .args .line .now) in let g = fields (c .before .before .before .before .before .before .before .before .before .before .before .args .other .now) in (search needs, any-more (sharesQuadrant f g) (c .before .before .before .before .loop .q) (c .before .before .before .before .loop .inv .1) (shared-is f (c .before .before .before .before .loop .q) g (c .before .before .quadrant-name .ensures) (c .before .gives-name2 .ensures) (c .if2 .left)))
+
+returns-3 : tie.Need-returns-3 Inv-loop μ-loop
+returns-3 c = let f = fields (c .before .before .before .before .before .before .before .before .args .line .now) in let g = fields (c .before .before .before .before .before .before .before .before .args .other .now) in let h = c .loop-test .left in let i = c .before .loop .inv .0 in let e : c .before .before .quad-count .result ≡ c .before .loop .q = omega arith in sym (shared-rest f g (c .before .before .before .before .before .field .ensures) (c .before .before .before .before .gives-name .ensures) (c .before .before .before .if1 .left) ∙ rw (← c .before .before .quad-count .ensures, e) (c .before .loop .inv .1))
+
+pub shares-name-spec : {M : Type 1} → statement M
+shares-name-spec =
+    tie.close
+    (tie.spec
+    Inv-loop
+    μ-loop
+    field-requires
+    gives-name-requires
+    returns
+    quad-count-requires
+    loop-holds
+    quadrant-name-requires
+    gives-name-requires-2
+    returns-2
+    add-q
+    loop-less
+    loop-again
+    returns-3)

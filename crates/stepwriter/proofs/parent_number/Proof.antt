@@ -1,0 +1,17 @@
+-- `parent_number`.
+use borrow.Author.Needs.{needs}
+use Rattle.stepwriter.proofs.parent_number.Statement.{statement}
+use Rattle.stepwriter.proofs.parent_number.Tie as tie
+
+returns : tie.Need-returns
+returns c = λ few. rw (← c .before .before .parent-field .ensures, ← c .before .is-none .ensures, c .if1 .taken)
+
+returns-2 : tie.Need-returns-2
+returns-2 c =
+    let i = c .before in
+    λ few. rw (← i .before .before .parent-field .ensures, ← i .before .is-none .ensures, i .if1 .left) (c .number-of .ensures few)
+
+pub parent-number-spec : {M : Type 1} → statement M
+parent-number-spec =
+    tie.close
+    (tie.spec (λ c κs. search needs) (λ c κs. search needs) returns (λ c κs. search needs) returns-2)

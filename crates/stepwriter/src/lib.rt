@@ -1,0 +1,89 @@
+// The step of a region of a table whose lines and names are checked, written over the beginning of a lent rest.
+ghost use mathlib.Core.Path.{_≡_};
+ghost use mathlib.Core.Bool.{cond};
+ghost use mathlib.Core.List.{_++_};
+ghost use Prim.Native.Nat.{_+_, _≤_, _<_};
+ghost use lib.ListN.{length};
+ghost use Rattle.text.specs.Bounded.{tab};
+ghost use Rattle.text.specs.Lines.{fields};
+ghost use Rattle.text.specs.Output.{over};
+ghost use Rattle.gates.specs.Gate.{regions};
+ghost use Rattle.gates.specs.Kinds.{fieldAt, lineKind, isNone};
+ghost use Rattle.gates.specs.Regions.{regionCount, stepNumber, bodyLength};
+ghost use Rattle.tables.specs.Table.{numberOf};
+ghost use Rattle.tables.specs.Steps.{stepWords};
+ghost use Rattle.resolve.specs.Reading.{fieldsAt, gatesAt};
+ghost use Rattle.writer.specs.Words.{header, operandAt};
+ghost use Rattle.tableregions.specs.Settled.{Settled};
+use gatefields::fields::is_complement;
+use gatefields::fields::is_none;
+use gatefields::fields::operand_name;
+use gatelines::regions::body_length;
+use gatelines::regions::operand_field;
+use gatelines::regions::parent_field;
+use gatelines::regions::step_number;
+use heads::head_line;
+use resolve::Starts;
+use resolve::line_at;
+use resolve::number_of;
+use writer::has_operands;
+use writer::put_header;
+use writer::put_leaf_step;
+use writer::put_operand;
+
+// The number of the parent of a gate line among the regions of n gates, where these are at most 64; 64 for none.
+fn parent_number(text: &[u8], starts: Starts, n: usize, line: &[u8]) -> usize
+    ensures { λ r. ⌜ (length (regions (gatesAt (now (text .entry)) (starts .at) n)) ≤ 64 → r ≡ cond (isNone (fieldAt (fields (now (line .entry))) 2)) 64 (numberOf (regions (gatesAt (now (text .entry)) (starts .at) n)) (fieldAt (fields (now (line .entry))) 2))) ⌝ }
+{
+    let x = parent_field(line);
+    if is_none(x) {
+        return 64;
+    }
+    number_of(text, starts, n, x)
+}
+
+// Writes the step of a combination over the beginning of rest, and answers how many words it has. Its operands are among the regions of n gates,
+// where these are at most 64.
+fn put_combination_step(
+    rest: &mut [i32],
+    text: &[u8],
+    starts: Starts,
+    n: usize,
+    line: &[u8],
+    region: usize,
+    parent: usize,
+) -> usize
+    ensures { λ r. ⌜ (length (regions (gatesAt (now (text .entry)) (starts .at) n)) ≤ 64 → (r ≡ 4 + bodyLength (fields (now (line .entry)))) × (now (rest .exit) ≡ over (header (stepNumber (lineKind (fields (now (line .entry))))) region parent (bodyLength (fields (now (line .entry)))) ++ tab (operandAt (regions (gatesAt (now (text .entry)) (starts .at) n)) (fields (now (line .entry)))) (bodyLength (fields (now (line .entry))))) (now (rest .entry)))) ⌝ }
+{
+    let m = body_length(line);
+    put_header(rest, step_number(line), region, parent, m);
+    let mut j = 0;
+    while j < m {
+        let x = operand_field(line, j);
+        let number = number_of(text, starts, n, operand_name(x));
+        put_operand(rest, 4 + j, number, is_complement(x));
+        j += 1;
+    }
+    4 + j
+}
+
+// Writes the step of a region over the beginning of rest, as far as it goes, and answers how many words it has. The region is region `quadrant` of
+// gate `gate`.
+pub fn put_step(
+    rest: &mut [i32],
+    text: &[u8],
+    starts: Starts,
+    n: usize,
+    gate: usize,
+    quadrant: usize,
+    region: usize,
+) -> usize
+    ensures { λ r. ⌜ (Settled (now (text .entry)) (starts .at) n → gate < n → quadrant < regionCount (fieldsAt (now (text .entry)) (starts .at) gate) → region ≡ length (regions (gatesAt (now (text .entry)) (starts .at) gate)) + quadrant → (r ≡ length (stepWords (regions (gatesAt (now (text .entry)) (starts .at) n)) region)) × (r ≤ 65539) × (now (rest .exit) ≡ over (stepWords (regions (gatesAt (now (text .entry)) (starts .at) n)) region) (now (rest .entry)))) ⌝ }
+{
+    let line = line_at(text, starts, gate);
+    let parent = parent_number(text, starts, n, line);
+    if has_operands(line) {
+        return put_combination_step(rest, text, starts, n, line, region, parent);
+    }
+    put_leaf_step(rest, head_line(text), line, quadrant, region, parent)
+}
