@@ -1,0 +1,171 @@
+#!/usr/bin/env python3
+"""The inputs of the fuzzer: where they begin, and what the reference says of those it found.
+
+    tests/fuzz/corpus.py seeds TABLES PLANS
+        writes the seeds: the examples, the inputs of docs/REFUSALS.md, and their plans and questions
+    tests/fuzz/corpus.py compare TABLES PLANS [--gatecount PATH] [--plans PATH] [--keep FOLDER]
+        each file of TABLES through gatecount, and its table as a question `compile`; each file of PLANS as the
+        questions `check`, `judge` and `count` (see tests/compare.py): all answers must be the reference's
+
+A file of TABLES is an input of gatecount. A file of PLANS is words of 32 bits, lowest byte first: in the first the number
+of plan words (its low 16 bits), then these, then a list of values.
+"""
+
+import argparse
+import glob
+import hashlib
+import importlib.machinery
+import importlib.util
+import os
+import struct
+import sys
+
+ROOT = os.path.join(os.path.dirname(os.path.abspath(__file__)), '..', '..')
+sys.path[:0] = [os.path.join(ROOT, 'tests'), os.path.join(ROOT, 'tests', 'reference')]
+
+import compare
+import gates
+
+MOST = 5000         # numbers of a list in a question
+ROOM = 4096         # words of the slice in a question `compile`
+
+
+# ---------------------------------------------------------------- seeds
+
+def users():
+    """tests/users, which reads the fenced blocks of the documents."""
+    here = os.getcwd()
+    loader = importlib.machinery.SourceFileLoader('users', os.path.join(ROOT, 'tests', 'users'))
+    module = importlib.util.module_from_spec(importlib.util.spec_from_loader('users', loader))
+    loader.exec_module(module)
+    os.chdir(here)
+    return module
+
+
+def packed(plan, values):
+    return struct.pack('<%di' % (1 + len(plan) + len(values)), len(plan), *plan, *values)
+
+
+def store(folder, data):
+    with open(os.path.join(folder, hashlib.sha1(data).hexdigest()), 'wb') as file:
+        file.write(data)
+
+
+def seeds(options):
+    inputs, plans = [], []
+    for path in sorted(glob.glob(os.path.join(ROOT, 'examples', '*.txt'))):
+        with open(path, 'rb') as file:
+            inputs.append(file.read())
+    for document in ('REFUSALS', 'FORMAT'):
+        for _, _, words, text in users().blocks(os.path.join(ROOT, 'docs', document + '.md')):
+            if words[:1] == ['input']:
+                inputs.append(text)
+            elif words[:1] == ['question'] and not text.startswith(b'compile'):
+                numbers = [int(field) for field in text.split()[1:]]
+                plan = numbers[1:1 + numbers[0]]
+                plans.append((plan, numbers[2 + numbers[0]:]))
+    # The longest input, and one byte more.
+    events = b'dims\tA\nevents\n' + b'5\n' * 32761
+    inputs += [events, events[:-1] + b'5\n', b'x' * 32767 + b'\n']
+    for data in inputs:
+        table, lines, _, _ = gates.part_input(data)
+        number, _, words, _ = gates.compile_table(table, ROOM)
+        if number == 0:
+            events = [gates.event_values(line, words[0]) for line in lines[:20]]
+            plans.append((words, [value for event in events if event for value in event if -2 ** 31 <= value < 2 ** 31]))
+    for folder in (options.tables, options.plans_folder):
+        os.makedirs(folder, exist_ok=True)
+    for data in inputs:
+        store(options.tables, data)
+    for plan, values in plans:
+        store(options.plans_folder, packed(plan, values))
+
+
+# ---------------------------------------------------------------- the comparison
+
+def contents(folder):
+    for name in sorted(os.listdir(folder)):
+        with open(os.path.join(folder, name), 'rb') as file:
+            yield name, file.read()
+
+
+def plan_questions(data):
+    words = struct.unpack('<%di' % (len(data) // 4), data[:len(data) // 4 * 4])
+    if not words:
+        return
+    rest = list(words[1:])
+    length = min(words[0] & 0xffff, len(rest))
+    plan, values = rest[:length], rest[length:]
+    if max(len(plan), len(values)) > MOST:
+        return
+    yield 'check', plan
+    yield 'count', plan, values
+    yield 'judge', plan, values
+    if gates.check_plan(plan)[0] == 0:
+        yield 'judge', plan, values[:plan[0]]
+
+
+class Comparison(compare.Comparison):
+    """Files in the place of generated inputs."""
+
+    def questions_of(self, asked):
+        for start in range(0, len(asked), compare.BATCH):
+            some = asked[start:start + compare.BATCH]
+            lines = [compare.question_line(question) for _, question in some]
+            for (name, question), line, actual in zip(some, lines, compare.ask(self.options.plans, lines)):
+                expected = compare.reference_answer(question)
+                self.questions[question[0], int(expected.split(b' ')[0])] += 1
+                self.note(actual == expected, 'question %s of %s' % (question[0], name), line + b'\n', expected, actual)
+
+    def run(self):
+        asked, skipped = [], 0
+        for name, data in contents(self.options.tables):
+            expected, actual = gates.gatecount(data), compare.run(self.options.gatecount, data)
+            self.refusals[compare.refusal(expected)] += 1
+            self.note(actual == expected, 'input %s' % name, data, expected, actual)
+            if compare.refusal(expected) == 0:
+                for fields in compare.table_fields(data):
+                    self.kinds[fields[0]] += 1
+                good = compare.quadrants_add_up(data, actual)
+                if good is not None:
+                    self.sums += 1
+                    self.note(good, 'quadrant sums of %s' % name, data, expected, actual)
+            table = gates.part_input(data)[0]
+            if len(table) < 49000:
+                asked.append((name, ('compile', ROOM, table)))
+        for name, data in contents(self.options.plans_folder):
+            questions = list(plan_questions(data))
+            skipped += not questions
+            asked += [(name, question) for question in questions]
+        self.questions_of(asked)
+        print('inputs of gatecount: %s' % compare.spread(
+            {'accepted' if number == 0 else number: times for number, times in sorted(self.refusals.items())}, False))
+        print('kinds in accepted tables: ' + compare.spread({kind.decode(): times for kind, times in self.kinds.items()}))
+        print('quadrant sums: %d' % self.sums)
+        for verb in ('compile', 'check', 'judge', 'count'):
+            print('%s: %s' % (verb, compare.spread({number: times for (other, number), times
+                                                    in sorted(self.questions.items()) if other == verb}, False)))
+        if skipped:
+            print('plans too short or too long for a question: %d' % skipped)
+
+
+def main():
+    parser = argparse.ArgumentParser(description='Seeds of the fuzzer, and its inputs beside the reference.')
+    parser.add_argument('what', choices=('seeds', 'compare'))
+    parser.add_argument('tables', metavar='TABLES')
+    parser.add_argument('plans_folder', metavar='PLANS')
+    parser.add_argument('--gatecount', type=compare.command, default='target/bin/gatecount', metavar='PATH')
+    parser.add_argument('--plans', type=compare.command, default='target/c/plans', metavar='PATH')
+    parser.add_argument('--keep', metavar='FOLDER', help='where the first differing inputs go')
+    options = parser.parse_args()
+    if options.what == 'seeds':
+        seeds(options)
+        return
+    comparison = Comparison(options)
+    comparison.run()
+    print('%d passed, %d failed' % (comparison.passed, comparison.failed))
+    sys.exit(1 if comparison.failed else 0)
+
+
+if __name__ == '__main__':
+    main()

@@ -1,0 +1,47 @@
+/*
+ * faulty.c: a compiler with a fault, the proved one with something added: tests/fuzz/check links it in its place, to see that the
+ * harness sees each FAULT.
+ */
+#include "gatecompile.h"
+
+void __real_gate_compile(const uint8_t *table, size_t table_len, int32_t *plan, size_t plan_len, uint64_t out[4]);
+void __wrap_gate_compile(const uint8_t *table, size_t table_len, int32_t *plan, size_t plan_len, uint64_t out[4]);
+
+void __wrap_gate_compile(const uint8_t *table, size_t table_len, int32_t *plan, size_t plan_len, uint64_t out[4])
+{
+    __real_gate_compile(table, table_len, plan, plan_len, out);
+    int refused = out[GATE_COMPILE_REFUSAL] != 0;
+    size_t words = (size_t)out[GATE_COMPILE_WORDS];
+    switch (FAULT) {
+    case 1: /* a refused compile writes a word */
+        if (refused && plan_len > 0)
+            plan[0] = 1;
+        break;
+    case 2: /* an accepted one writes a word more */
+        if (!refused && words < plan_len)
+            plan[words] = 0;
+        break;
+    case 3: /* it writes behind the slice */
+        if (!refused)
+            *(volatile int32_t *)&plan[plan_len] = 0;
+        break;
+    case 4: /* it reads behind the table */
+        (void)*(volatile const uint8_t *)&table[table_len];
+        break;
+    case 5: /* it reports too many regions */
+        out[GATE_COMPILE_REGIONS] += !refused;
+        break;
+    case 6: /* it reports too few words */
+        out[GATE_COMPILE_WORDS] -= !refused;
+        break;
+    case 7: /* a refused compile reports words */
+        out[GATE_COMPILE_WORDS] += (uint64_t)refused;
+        break;
+    case 8: /* the refusal has another place */
+        out[GATE_COMPILE_PLACE] += (uint64_t)refused;
+        break;
+    default: /* the first box ends one later */
+        if (!refused && words > 8 && plan[2] == 1)
+            plan[8]++;
+    }
+}
