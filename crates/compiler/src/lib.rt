@@ -10,7 +10,6 @@ ghost use Rattle.tables.specs.Compile.{compileOf};
 ghost use Rattle.resolve.specs.Reading.{gatesAt};
 ghost use Rattle.tableregions.specs.Settled.{Settled};
 ghost use Rattle.compiler.specs.Answers.{refusal, compiling, Unrefused};
-use gatefields::fields::lesser;
 use gatefields::fields::minus;
 use gatefields::fields::name_count;
 use graph::next_row;
@@ -25,6 +24,7 @@ use tablecheck::Answer;
 use tablecheck::check_table;
 use tableregions::locate;
 use tableregions::region_rows;
+use text::output::lesser;
 use writer::put_number;
 
 // Why a table is refused, with its line.

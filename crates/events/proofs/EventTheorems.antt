@@ -12,7 +12,7 @@ use lib.ListN.{length, getD, take, drop, take-append-drop, length-append, length
 use lib.Seq.{take-all, drop-drop}
 use borrow.Author.Tests.{ltb-true, ltb-false, lt-ltb, le-ltb, le-leb, eqb-true, not-true, not-false}
 use Rattle.text.specs.Bytes.{bytes, same, every, before}
-use Rattle.text.specs.Numbers.{isNegative, unsigned, isPositive, isNumber, numberValue, within, readNumber}
+use Rattle.text.specs.Numbers.{isNegative, unsigned, isPositive, isNumber, numberValue, within, readNumber, kept}
 use Rattle.text.specs.Lines.{fields, unfields, lines, unlines, endsInLF, findFrom, lineFrom, lineStarts}
 use Rattle.text.proofs.TestLaws.{true≢false, and-left, and-right, passed-or-failed, lt-or-ge}
 use Rattle.text.proofs.BytesLaws.{rest-cons, before-found, before-first, same-eq}
@@ -20,7 +20,7 @@ use Rattle.text.proofs.LinesLaws.{lines-cut, line-length, fields-some, lineStar
 use Rattle.text.proofs.NumbersLaws.{within-event, clamp-within, read-value}
 use Rattle.text.proofs.TextTheorems.{unlines-lines, unfields-fields}
 use Rattle.events.specs.Parting.{tableLines, tableEnd, hasEvents, eventsEnded, tablePart, eventPart}
-use Rattle.events.specs.Listing.{Events, list, ragged, isEvent, eventLines, badLine, valueOf, lineValues, values, eventsOf, answerOf}
+use Rattle.events.specs.Listing.{Events, list, ragged, isEvent, eventLines, badLine, lineValues, values, eventsOf, answerOf}
 use Rattle.events.specs.declared.listing.Answer.the-variants.{Values, Short}
 use Rattle.events.proofs.ListingLaws.{isBad, lineValues-length}
 use Rattle.events.proofs.AnswerLaws.{events-none, events-open, events-ragged, events-listed}
@@ -265,9 +265,9 @@ never-short n s room h e = go (eventsOf n s) refl e
 
 module _ (f : List ℕ) (h : isNumber f ≡ true) where
   -- the value kept is on the scale of an event's values exactly where the number is
-  pub kept-on-scale : within (negsuc 65535) (pos 65535) (valueOf (readNumber f)) ≡ within (negsuc 65535) (pos 65535) (numberValue f)
+  pub kept-on-scale : within (negsuc 65535) (pos 65535) (kept (readNumber f)) ≡ within (negsuc 65535) (pos 65535) (numberValue f)
   kept-on-scale = rw (read-value f h) (within-event (numberValue f))
 
   -- and is then the number
-  pub kept-is : within (negsuc 65535) (pos 65535) (numberValue f) ≡ true → valueOf (readNumber f) ≡ numberValue f
+  pub kept-is : within (negsuc 65535) (pos 65535) (numberValue f) ≡ true → kept (readNumber f) ≡ numberValue f
   kept-is w = rw (read-value f h) (clamp-within (negsuc 65535) (pos 65535) (numberValue f) (omega arith) (omega arith) w)

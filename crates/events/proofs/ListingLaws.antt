@@ -10,7 +10,7 @@ use lib.ListN.{length, getD, set, take, drop, length-append, length-drop, length
 use lib.Seq.{take-all, length-take-le}
 use borrow.Author.Tests.{lt-ltb, le-ltb, eq-eqb, ne-eqb}
 use Rattle.text.specs.Bytes.{every, occurrences}
-use Rattle.text.specs.Numbers.{isNumber, readNumber}
+use Rattle.text.specs.Numbers.{isNumber, readNumber, kept}
 use Rattle.text.specs.Lines.{fields, lines, endsInLF, findFrom, lineFrom}
 use Rattle.text.specs.Output.{over, overFrom}
 use Rattle.text.proofs.TestLaws.{and-false}
@@ -18,7 +18,7 @@ use Rattle.text.proofs.BytesLaws.{every-fails, every-end}
 use Rattle.text.proofs.OutputLaws.{over-take}
 use Rattle.text.proofs.LinesLaws.{find-inside, lines-cut, lines-end, line-length}
 use Rattle.text.proofs.TextTheorems.{fields-count}
-use Rattle.events.specs.Listing.{isEvent, eventLines, badLine, valueOf, lineValues, values}
+use Rattle.events.specs.Listing.{isEvent, eventLines, badLine, lineValues, values}
 use Rattle.text.proofs.WritingLaws.{over-from, take-more, drop-more}
 use Rattle.events.proofs.SearchLaws.{Passed, found-number, found-below, missing-number, missing-count}
 
@@ -80,15 +80,15 @@ occurrences-le c (x ∷ s) = go (eqb x c) (occurrences-le c s)
 pub lineValues-le : (l : List ℕ) → length (lineValues l) ≤ length l + 1
 lineValues-le l = omega (arith, lineValues-length l, fields-count l, occurrences-le 9 l)
 
-value-at : (l : List ℕ) (k : ℕ) → getD (lineValues l) k (valueOf (readNumber [])) ≡ valueOf (readNumber (getD (fields l) k []))
+value-at : (l : List ℕ) (k : ℕ) → getD (lineValues l) k (kept (readNumber [])) ≡ kept (readNumber (getD (fields l) k []))
 unfolding lineValues
-value-at l k = List·getD-map (λ (f : List ℕ). valueOf (readNumber f)) (fields l) k []
+value-at l k = List·getD-map (λ (f : List ℕ). kept (readNumber f)) (fields l) k []
 
 -- one value more of a line is written
 pub line-more : (l : List ℕ) (d : List ℤ) (k : ℕ) → k < length (fields l)
-    → set (over (take k (lineValues l)) d) k (valueOf (readNumber (getD (fields l) k []))) ≡ over (take (k + 1) (lineValues l)) d
+    → set (over (take k (lineValues l)) d) k (kept (readNumber (getD (fields l) k []))) ≡ over (take (k + 1) (lineValues l)) d
 line-more l d k h =
-    ap (set (over (take k (lineValues l)) d) k) (sym (value-at l k)) ∙ over-take (lineValues l) d k (valueOf (readNumber [])) (omega (arith, lineValues-length l))
+    ap (set (over (take k (lineValues l)) d) k) (sym (value-at l k)) ∙ over-take (lineValues l) d k (kept (readNumber [])) (omega (arith, lineValues-length l))
 
 -- the values of the lines from place a on
 abbrev pub valuesFrom : List ℕ → ℕ → List ℤ

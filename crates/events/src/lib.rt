@@ -2,4 +2,3 @@
 pub mod listing;
 pub mod parting;
 pub mod printing;
-mod writing;

@@ -3,9 +3,9 @@ ghost use mathlib.Core.Path.{_≡_};
 ghost use Prim.Native.Nat.{_+_, _≤_};
 ghost use lib.ListN.{length, set, drop};
 ghost use Rattle.text.specs.Output.{over, overFrom};
-ghost use Rattle.events.specs.Listing.{isEvent, badLine, valueOf, lineValues, values, eventsOf, answerOf, listed};
+ghost use Rattle.text.specs.Numbers.{kept};
+ghost use Rattle.events.specs.Listing.{isEvent, badLine, lineValues, values, eventsOf, answerOf, listed};
 use crate::parting::split;
-use crate::writing::least;
 use text::lines::ends_in_lf;
 use text::lines::field;
 use text::lines::field_count;
@@ -13,7 +13,9 @@ use text::lines::find;
 use text::lines::line_from;
 use text::numbers::Number;
 use text::numbers::is_number;
+use text::numbers::kept;
 use text::numbers::read_number;
+use text::output::lesser;
 
 // What reading the events answers.
 pub enum Answer {
@@ -61,22 +63,12 @@ fn bad_line(part: &[u8], n: usize) -> usize
     0
 }
 
-// The value that is kept of a number.
-fn value_of(number: Number) -> i32
-    ensures { λ r. ⌜ r ≡ valueOf number ⌝ }
-{
-    match number {
-        Number::Bad => 0,
-        Number::Value(v) => v,
-    }
-}
-
 // Puts the value of a number at index i, where there is one.
 fn put_value(values: &mut [i32], i: usize, number: Number)
-    ensures { λ _. ⌜ now (values .exit) ≡ set (now (values .entry)) i (valueOf number) ⌝ }
+    ensures { λ _. ⌜ now (values .exit) ≡ set (now (values .entry)) i (kept number) ⌝ }
 {
     if i < values.len() {
-        values[i] = value_of(number);
+        values[i] = kept(number);
     }
 }
 
@@ -97,7 +89,7 @@ fn put_line(rest: &mut [i32], line: &[u8]) -> usize
 fn put_line_from(values: &mut [i32], a: usize, line: &[u8]) -> usize
     ensures { λ r. ⌜ (r ≡ length (lineValues (now (line .entry)))) × (now (values .exit) ≡ overFrom a (lineValues (now (line .entry))) (now (values .entry))) ⌝ }
 {
-    let b = least(a, values.len());
+    let b = lesser(a, values.len());
     put_line(&mut values[b..], line)
 }
 
@@ -119,7 +111,7 @@ fn put_lines(list: &mut [i32], part: &[u8]) -> usize
 fn rest_from(s: &[u8], a: usize) -> &[u8]
     ensures { λ r. ⌜ now r ≡ drop a (now (s .entry)) ⌝ }
 {
-    let b = least(a, s.len());
+    let b = lesser(a, s.len());
     &s[b..]
 }
 

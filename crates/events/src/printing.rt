@@ -3,7 +3,7 @@ ghost use mathlib.Core.Path.{_≡_};
 ghost use lib.ListN.{length};
 ghost use Rattle.text.specs.Output.{decimal, over, overFrom};
 ghost use Rattle.events.specs.Printing.{countLine, takenLine, spoiltLine, refusedLine};
-use crate::writing::least;
+use text::output::lesser;
 use text::output::put_bytes;
 use text::output::put_number;
 
@@ -11,7 +11,7 @@ use text::output::put_number;
 fn put_bytes_from(rest: &mut [u8], a: usize, s: &[u8]) -> usize
     ensures { λ r. ⌜ (r ≡ length (now (s .entry))) × (now (rest .exit) ≡ overFrom a (now (s .entry)) (now (rest .entry))) ⌝ }
 {
-    let b = least(a, rest.len());
+    let b = lesser(a, rest.len());
     put_bytes(&mut rest[b..], s)
 }
 
@@ -19,7 +19,7 @@ fn put_bytes_from(rest: &mut [u8], a: usize, s: &[u8]) -> usize
 fn put_number_from(rest: &mut [u8], a: usize, x: u64) -> usize
     ensures { λ r. ⌜ (r ≡ length (decimal x)) × (now (rest .exit) ≡ overFrom a (decimal x) (now (rest .entry))) ⌝ }
 {
-    let b = least(a, rest.len());
+    let b = lesser(a, rest.len());
     put_number(&mut rest[b..], x)
 }
 
@@ -37,7 +37,7 @@ pub fn put_count(rest: &mut [u8], name: &[u8], count: u64) -> usize
 pub fn put_count_from(rest: &mut [u8], a: usize, name: &[u8], count: u64) -> usize
     ensures { λ r. ⌜ (r ≡ length (countLine (now (name .entry)) count)) × (now (rest .exit) ≡ overFrom a (countLine (now (name .entry)) count) (now (rest .entry))) ⌝ }
 {
-    let b = least(a, rest.len());
+    let b = lesser(a, rest.len());
     put_count(&mut rest[b..], name, count)
 }
 

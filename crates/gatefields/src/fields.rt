@@ -1,29 +1,23 @@
 // What a line's single fields say.
 ghost use mathlib.Core.Path.{_≡_};
 ghost use mathlib.Core.Bool.{cond};
-ghost use Prim.Native.Nat.{_-_, min};
+ghost use Prim.Native.Nat.{_-_};
 ghost use lib.ListN.{length, drop};
 ghost use Rattle.text.specs.Lines.{fields};
-ghost use Rattle.gates.specs.Kinds.{kindOf, lineKind, isUnknown, isQuad, isStar, isNone, isParent, isComplement, operandName, isOperand, dimensionOf, valueIn, valueOf};
+ghost use Rattle.gates.specs.Kinds.{kindOf, lineKind, isUnknown, isQuad, isStar, isNone, isParent, isComplement, operandName, isOperand, dimensionOf, valueOf};
 use gates::LineKind;
 use text::lines::field;
 use text::lines::field_count;
 use text::lines::find_field;
 use text::names::is_name;
 use text::names::same;
-use text::numbers::Number;
+use text::numbers::kept;
 use text::numbers::read_number;
 
 pub fn pick(b: bool, x: usize, y: usize) -> usize
     ensures { λ r. ⌜ r ≡ cond b x y ⌝ }
 {
     if b { x } else { y }
-}
-
-pub fn lesser(x: usize, y: usize) -> usize
-    ensures { λ r. ⌜ r ≡ min x y ⌝ }
-{
-    if x < y { x } else { y }
 }
 
 pub fn minus(x: usize, y: usize) -> usize
@@ -140,19 +134,10 @@ pub fn is_operand(x: &[u8]) -> bool
     is_name(operand_name(x))
 }
 
-fn value_in(n: Number) -> i32
-    ensures { λ r. ⌜ r ≡ valueIn n ⌝ }
-{
-    match n {
-        Number::Bad => 0,
-        Number::Value(v) => v,
-    }
-}
-
 pub fn value_of(x: &[u8]) -> i32
     ensures { λ r. ⌜ r ≡ valueOf (now (x .entry)) ⌝ }
 {
-    value_in(read_number(x))
+    kept(read_number(x))
 }
 
 // How many names the head line has.

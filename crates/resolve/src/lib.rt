@@ -17,7 +17,6 @@ ghost use Rattle.tables.specs.Refusals.{uncrowded, unrepeated, living, uncircle
 ghost use Rattle.resolve.specs.Reading.{lineAt, gatesAt, repeatsAt, refersBy};
 ghost use Rattle.graph.specs.Rows.{bitAt};
 ghost use Rattle.resolve.specs.NamedVerdict.{GoodLines, after, namesVerdict};
-use gatefields::fields::lesser;
 use gatefields::fields::minus;
 use gatelines::regions::region_count;
 use graph::Rows;
@@ -34,6 +33,7 @@ use plans::bits::has_bit;
 use plans::bits::with_bit;
 use text::lines::index_lines;
 use text::lines::line_from;
+use text::output::lesser;
 
 // The places where the lines of a text begin, the head first, then up to 65 gate lines.
 pub struct Starts {

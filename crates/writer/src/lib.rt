@@ -10,11 +10,11 @@ ghost use Rattle.gates.specs.Kinds.{lineKind};
 ghost use Rattle.gates.specs.Regions.{stepNumber, bodyLength, bodyWordOf};
 ghost use Rattle.writer.specs.Words.{numberWord, parentNumberWord, header, operandWord, combines as combinesOf};
 use gatefields::fields::kind_of;
-use gatefields::fields::lesser;
 use gatelines::regions::body_length;
 use gatelines::regions::step_number;
 use gatelines::regions::word_of;
 use gates::LineKind;
+use text::output::lesser;
 
 fn combines(kind: LineKind) -> bool
     ensures { λ r. ⌜ r ≡ combinesOf kind ⌝ }

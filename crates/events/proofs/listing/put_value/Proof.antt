@@ -6,7 +6,7 @@ use Rattle.events.proofs.listing.put_value.Statement.{statement}
 use Rattle.events.proofs.listing.put_value.Tie as tie
 
 returns : tie.Need-returns
-returns c = rw (← c .value-of .ensures) (search needs)
+returns c = rw (← c .kept .ensures) (search needs)
 
 returns-2 : tie.Need-returns-2
 returns-2 c = sym (set-out _ _ _ (c .if1 .left))

@@ -7,7 +7,7 @@ use Rattle.events.proofs.listing.rest_from.Statement.{statement}
 use Rattle.events.proofs.listing.rest_from.Tie as tie
 
 returns : tie.Need-returns
-returns c = part-rest (c .before .least .result) (c .before .before .before .args .s .now) ∙ drop-least _ _ _ (c .before .least .ensures)
+returns c = part-rest (c .before .lesser .result) (c .before .before .before .args .s .now) ∙ drop-least _ _ _ (c .before .lesser .ensures)
 
 pub rest-from-spec : {M : Type 1} → statement M
 rest-from-spec =

@@ -8,7 +8,7 @@ returns : tie.Need-returns
 returns c =
     let w = c .before .before in
     let l = w .before .before in
-    (w .put-count .ensures .0, over-lent _ _ (l .least .result) (l .least .ensures) _ _ (w .put-count .ensures .1))
+    (w .put-count .ensures .0, over-lent _ _ (l .lesser .result) (l .lesser .ensures) _ _ (w .put-count .ensures .1))
 
 pub put-count-from-spec : {M : Type 1} → statement M
 put-count-from-spec =

@@ -8,7 +8,7 @@ returns : tie.Need-returns
 returns c =
     let w = c .before .before in
     let l = w .before .before in
-    (w .put-number .ensures .0, over-lent _ _ (l .least .result) (l .least .ensures) _ _ (w .put-number .ensures .1))
+    (w .put-number .ensures .0, over-lent _ _ (l .lesser .result) (l .lesser .ensures) _ _ (w .put-number .ensures .1))
 
 pub put-number-from-spec : {M : Type 1} → statement M
 put-number-from-spec =

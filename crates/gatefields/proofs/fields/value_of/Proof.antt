@@ -7,7 +7,7 @@ use Rattle.gatefields.proofs.fields.value_of.Tie as tie
 
 returns : tie.Need-returns
 unfolding valueOf
-returns c = rw (toZ-ofZ w32 _ (record { sfits = c .value-in .ok }), c .value-in .ensures, c .before .read-number .ensures)
+returns c = rw (toZ-ofZ w32 _ (record { sfits = c .kept .ok }), c .kept .ensures, c .before .read-number .ensures)
 
 pub value-of-spec : {M : Type 1} → statement M
 value-of-spec =
