@@ -11,7 +11,7 @@ use Rattle.text.proofs.WritingLaws.{over-lent, over-from}
 use Rattle.gates.specs.Gate.{Region}
 use Rattle.tables.specs.Head.{headFields, dimensions}
 use Rattle.tables.specs.Steps.{order, stepsWords, planWords}
-use Rattle.writer.specs.Words.{numberWord}
+use Rattle.writer.specs.Inner.Words.{numberWord}
 use Rattle.writer.proofs.StepTheorems.{number-kept}
 
 two-words : (d : List ℤ) (a b : ℤ) → set (set d 0 a) 1 b ≡ over (a ∷ b ∷ []) d

@@ -24,12 +24,12 @@ use Rattle.tables.proofs.ListLaws.{not-not, index-of}
 use Rattle.tables.proofs.RuleLaws.{Unrefused as Held, rules-hold}
 use Rattle.tables.proofs.Acceptance.{not-refused, unless-passed}
 use Rattle.tables.proofs.CompileLaws.{head-width}
-use Rattle.resolve.specs.NamedVerdict.{GoodLines, namesVerdict}
-use Rattle.resolve.specs.Reading.{fieldsAt, gatesAt}
+use Rattle.resolve.specs.Inner.NamedVerdict.{GoodLines, namesVerdict}
+use Rattle.resolve.specs.Inner.Reading.{fieldsAt, gatesAt}
 use Rattle.resolve.proofs.StartLaws.{Indexed, gates-read}
-use Rattle.tablecheck.specs.TextVerdict.{textVerdict}
-use Rattle.tableregions.specs.Settled.{Settled}
-use Rattle.compiler.specs.Answers.{Unrefused}
+use Rattle.tablecheck.specs.Inner.TextVerdict.{textVerdict}
+use Rattle.tableregions.specs.Inner.Settled.{Settled}
+use Rattle.compiler.specs.Inner.Unrefused.{Unrefused}
 
 -- each gate of lines that pass has a region
 pub lines-regions : (head : List (List ℕ)) (ls : List (List ℕ)) → ((l : List ℕ) → l ∈ ls → lineRefusal head (fields l) ≡ noRefusal) → length ls ≤ length (regions (map (lineGate head) ls))

@@ -9,12 +9,13 @@ use lib.ListN.{length, take, drop, length-append, length-drop}
 use lib.Seq.{take-all, length-take-le}
 use Rattle.plans.specs.Indices.{firstBad}
 use Rattle.plans.specs.Bits.{withBit}
-use Rattle.text.specs.Output.{over, overFrom}
+use Rattle.text.specs.Output.{over}
+use Rattle.text.specs.Inner.Writing.{overFrom}
 use Rattle.text.proofs.WritingLaws.{over-from, take-more, drop-more}
 use Rattle.gates.specs.Gate.{Region}
 use Rattle.tables.specs.Steps.{nextRegion, orderFrom, order, stepWords, stepsWords}
 use Rattle.tables.proofs.LoopLaws.{order-next, order-end}
-use Rattle.graph.specs.Rows.{held, Referring}
+use Rattle.graph.specs.Inner.Rows.{held, Referring}
 use Rattle.graph.proofs.RowLaws.{next-region}
 
 order-none : (rs : List Region) (written : ℕ) → stepsWords rs (orderFrom 0 rs written) ≡ []

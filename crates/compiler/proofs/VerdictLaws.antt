@@ -20,7 +20,7 @@ use Rattle.gates.specs.declared.LineKind.{LineKind}
 use Rattle.gates.specs.declared.Rule.{Rule}
 use Rattle.gates.specs.declared.Rule.the-variants.{Free, Name, Parent, Operand, Dimension, Coordinate, Entry, Distance, Min, Max, Value, Rising, Representative}
 use Rattle.gates.specs.Kinds.{lineKind, isUnknown, isStar, isParent, isOperand}
-use Rattle.gates.specs.Rules.{noRefusal, unless, numberRefusal, optionalRefusal, rises, earned, fieldRefusal, fieldsRefusal, ruleOf}
+use Rattle.gates.specs.Rules.{noRefusal, unless, numberRefusal, optionalRefusal, uncrossed, earned, fieldRefusal, fieldsRefusal, ruleOf}
 use Rattle.gates.specs.Refusal.{kindRefusal, lineRefusal, shapeGood, matrixPasses, tilingPasses}
 use Rattle.gates.specs.Gate.{Gate, regions}
 use Rattle.tables.specs.Head.{dimensions, headGood, gateLines, gates}
@@ -28,13 +28,13 @@ use Rattle.tables.specs.Steps.{planWords}
 use Rattle.tables.specs.Refusals.{unlessLine, refusalAt, lineGood, always, uncrowded, unrepeated, living, uncircled, sizeVerdict, gatesVerdict, tableVerdict}
 use Rattle.tables.proofs.Acceptance.{Accepted, passed-accepted}
 use Rattle.tables.specs.Compile.{Compiling, planOf, compiled, uncompiled, compileOf}
-use Rattle.resolve.specs.NamedVerdict.{namesVerdict}
+use Rattle.resolve.specs.Inner.NamedVerdict.{namesVerdict}
 use Rattle.resolve.specs.declared.Named.the-variants.{Fine}
 use Rattle.tablecheck.specs.declared.Answer.{Answer}
 use Rattle.tablecheck.specs.declared.Answer.the-variants.{Names}
-use Rattle.tablecheck.specs.TextVerdict.{answered, textVerdict}
+use Rattle.tablecheck.specs.Inner.TextVerdict.{answered, textVerdict}
 use Rattle.tablecheck.proofs.CursorLaws.{table-verdict}
-use Rattle.compiler.specs.Answers.{Unrefused}
+use Rattle.compiler.specs.Inner.Unrefused.{Unrefused}
 
 -- ---- the number of a refusal is never 0
 
@@ -66,9 +66,9 @@ earned-named Coordinate b y x = number-named _ _ x
 earned-named Entry b y x = number-named _ _ x
 earned-named Distance b y x = number-named _ _ x
 earned-named Min b y x = optional-named _ _ x
-earned-named Max b y x = lesser _ _ (optional-named _ _ x) (unless-named (rises y x) 10 (omega arith))
+earned-named Max b y x = lesser _ _ (optional-named _ _ x) (unless-named (uncrossed y x) 10 (omega arith))
 earned-named Value b y x = number-named _ _ x
-earned-named Rising b y x = lesser _ _ (number-named _ _ x) (unless-named (rises y x) 10 (omega arith))
+earned-named Rising b y x = lesser _ _ (number-named _ _ x) (unless-named (uncrossed y x) 10 (omega arith))
 earned-named Representative b y x = optional-named _ _ x
 
 fields-named : (head : List (List ℕ)) (kind : LineKind) (fs : List (List ℕ)) → 4 ≤ fieldsRefusal head kind fs

@@ -1,2 +1,3 @@
 -- What compiling answers.
 pub mod Answers
+pub mod Inner

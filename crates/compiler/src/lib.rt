@@ -2,14 +2,16 @@
 ghost use mathlib.Core.Path.{_≡_};
 ghost use Prim.Native.Nat.{_≤_, _<_};
 ghost use lib.ListN.{length};
-ghost use Rattle.text.specs.Output.{over, overFrom};
+ghost use Rattle.text.specs.Output.{over, Writes};
+ghost use Rattle.text.specs.Inner.Writing.{overFrom};
 ghost use Rattle.gates.specs.Gate.{regions};
 ghost use Rattle.tables.specs.Head.{dimensions};
 ghost use Rattle.tables.specs.Steps.{order, stepWords, stepsWords, planWords};
 ghost use Rattle.tables.specs.Compile.{compileOf};
-ghost use Rattle.resolve.specs.Reading.{gatesAt};
-ghost use Rattle.tableregions.specs.Settled.{Settled};
-ghost use Rattle.compiler.specs.Answers.{refusal, compiling, Unrefused};
+ghost use Rattle.resolve.specs.Inner.Reading.{gatesAt};
+ghost use Rattle.tableregions.specs.Inner.Settled.{Settled};
+ghost use Rattle.compiler.specs.Answers.{tableRefusal, compiling};
+ghost use Rattle.compiler.specs.Inner.Unrefused.{Unrefused};
 use gatefields::fields::minus;
 use gatefields::fields::name_count;
 use graph::next_row;
@@ -49,7 +51,7 @@ pub enum Compiled {
 }
 
 pub fn number_of(r: Refusal) -> u64
-    ensures { λ x. ⌜ x ≡ refusal r .number ⌝ }
+    ensures { λ x. ⌜ x ≡ tableRefusal r .number ⌝ }
 {
     match r {
         Refusal::LongTable => 1,
@@ -66,7 +68,7 @@ pub fn number_of(r: Refusal) -> u64
 }
 
 pub fn place_of(r: Refusal) -> u64
-    ensures { λ x. ⌜ x ≡ refusal r .place ⌝ }
+    ensures { λ x. ⌜ x ≡ tableRefusal r .place ⌝ }
 {
     match r {
         Refusal::LongTable => 0,
@@ -128,7 +130,7 @@ fn put_steps(rest: &mut [i32], text: &[u8], starts: Starts, n: usize, total: usi
 // Writes the plan over the beginning of a slice, as far as it goes, and answers how many words the plan has.
 fn put_plan(plan: &mut [i32], text: &[u8], starts: Starts, n: usize) -> usize
     requires { ⌜ Settled (now text) (starts .at) n ⌝ }
-    ensures { λ x. ⌜ (x ≡ length (planWords (length (dimensions (now (text .entry)))) (regions (gatesAt (now (text .entry)) (starts .at) n)))) × (now (plan .exit) ≡ over (planWords (length (dimensions (now (text .entry)))) (regions (gatesAt (now (text .entry)) (starts .at) n))) (now (plan .entry))) ⌝ }
+    ensures { λ x. ⌜ Writes (planWords (length (dimensions (now (text .entry)))) (regions (gatesAt (now (text .entry)) (starts .at) n))) (now (plan .entry)) (now (plan .exit)) x ⌝ }
 {
     let total = region_total(text, starts, n);
     put_number(plan, 0, name_count(head_line(text)));

@@ -14,7 +14,7 @@ use Rattle.tables.specs.Compile.{Compiling, compileOf}
 use Rattle.tables.specs.TableCount.{TableCounting, countTableOf}
 use Rattle.tables.specs.Demand.{KeepsDemand3}
 use Rattle.tables.proofs.Demand.{demand-3}
-use Rattle.compiler.specs.Answers.{refusal, compiling}
+use Rattle.compiler.specs.Answers.{tableRefusal, compiling}
 use Rattle.compiler.specs.declared.Compiled.{Compiled}
 use Rattle.compiler.specs.declared.Compiled.the-variants.{Written, Refused}
 use Rattle.compiler.specs.declared.Refusal.{Refusal}
@@ -27,9 +27,9 @@ unfolding countTableOf
 counted-is text slice values e f = rw (← e, f)
 
 uncounted-is : (text : List ℕ) (slice values : List ℤ) (r : Refusal) {after : List ℤ} → compiling (Refused r) after ≡ compileOf text slice → {t : Tally} → t ≡ noTally
-    → record { compiled = compiling (Refused r) after; counted = record { verdict = refusal r; tally = t } } ≡ countTableOf text slice values
+    → record { compiled = compiling (Refused r) after; counted = record { verdict = tableRefusal r; tally = t } } ≡ countTableOf text slice values
 unfolding countTableOf
-uncounted-is text slice values r e f = let b : eqb (refusal r .number) 0 ≡ false = refused-number text slice e in rw (← e, f, b)
+uncounted-is text slice values r e f = let b : eqb (tableRefusal r .number) 0 ≡ false = refused-number text slice e in rw (← e, f, b)
 
 module _ (text : List ℕ) (slice values : List ℤ) where
   -- what is promised of an answer

@@ -9,8 +9,10 @@ use lib.ListN.{length, drop}
 use borrow.Author.Tests.{lt-ltb, le-ltb, le-leb, lt-leb}
 use Rattle.text.specs.Output.{over}
 use Rattle.text.proofs.OutputLaws.{over-length}
-use Rattle.events.specs.Parting.{tableLines, hasEvents, eventsEnded, eventPart, partedOf}
-use Rattle.events.specs.Listing.{list, ragged, badLine, values, eventsOf, listed, answerOf}
+use Rattle.events.specs.Parting.{tableLines, hasEvents, eventsEnded, eventPart}
+use Rattle.events.specs.Inner.Answers.{partedOf}
+use Rattle.events.specs.Listing.{list, ragged, badLine, values, eventsOf}
+use Rattle.events.specs.Inner.Answers.{listed, answerOf}
 use Rattle.events.specs.declared.parting.Parted.{Parted}
 use Rattle.events.specs.declared.listing.Answer.{Answer}
 use Rattle.events.specs.declared.listing.Answer.the-variants.{Values, Ragged, Short}

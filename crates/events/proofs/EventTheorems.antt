@@ -13,14 +13,16 @@ use lib.Seq.{take-all, drop-drop}
 use borrow.Author.Tests.{ltb-true, ltb-false, lt-ltb, le-ltb, le-leb, eqb-true, not-true, not-false}
 use Rattle.text.specs.Bytes.{bytes, same, every, before}
 use Rattle.text.specs.Numbers.{isNegative, unsigned, isPositive, isNumber, numberValue, within, readNumber, kept}
-use Rattle.text.specs.Lines.{fields, unfields, lines, unlines, endsInLF, findFrom, lineFrom, lineStarts}
+use Rattle.text.specs.Lines.{fields, unfields, lines, unlines, endsInLF, lineStarts}
+use Rattle.text.specs.Inner.Places.{findFrom, lineFrom}
 use Rattle.text.proofs.TestLaws.{true≢false, and-left, and-right, passed-or-failed, lt-or-ge}
 use Rattle.text.proofs.BytesLaws.{rest-cons, before-found, before-first, same-eq}
 use Rattle.text.proofs.LinesLaws.{lines-cut, line-length, fields-some, lineStarts-length, start-inside, lines-from-start, line-at-start}
 use Rattle.text.proofs.NumbersLaws.{within-event, clamp-within, read-value}
 use Rattle.text.proofs.TextTheorems.{unlines-lines, unfields-fields}
 use Rattle.events.specs.Parting.{tableLines, tableEnd, hasEvents, eventsEnded, tablePart, eventPart}
-use Rattle.events.specs.Listing.{Events, list, ragged, isEvent, eventLines, badLine, lineValues, values, eventsOf, answerOf}
+use Rattle.events.specs.Listing.{Events, list, ragged, isEvent, eventLines, badLine, lineValues, values, eventsOf}
+use Rattle.events.specs.Inner.Answers.{answerOf}
 use Rattle.events.specs.declared.listing.Answer.the-variants.{Values, Short}
 use Rattle.events.proofs.ListingLaws.{isBad, lineValues-length}
 use Rattle.events.proofs.AnswerLaws.{events-none, events-open, events-ragged, events-listed}

@@ -9,10 +9,13 @@ use lib.IntN.{ℤ}
 use lib.ListN.{length, getD, set, take, drop, length-append, length-drop, length-map, List·getD-map}
 use lib.Seq.{take-all, length-take-le}
 use borrow.Author.Tests.{lt-ltb, le-ltb, eq-eqb, ne-eqb}
-use Rattle.text.specs.Bytes.{every, occurrences}
+use Rattle.text.specs.Bytes.{every}
+use Rattle.text.specs.Inner.Counts.{occurrences}
 use Rattle.text.specs.Numbers.{isNumber, readNumber, kept}
-use Rattle.text.specs.Lines.{fields, lines, endsInLF, findFrom, lineFrom}
-use Rattle.text.specs.Output.{over, overFrom}
+use Rattle.text.specs.Lines.{fields, lines, endsInLF}
+use Rattle.text.specs.Inner.Places.{findFrom, lineFrom}
+use Rattle.text.specs.Output.{over}
+use Rattle.text.specs.Inner.Writing.{overFrom}
 use Rattle.text.proofs.TestLaws.{and-false}
 use Rattle.text.proofs.BytesLaws.{every-fails, every-end}
 use Rattle.text.proofs.OutputLaws.{over-take}

@@ -8,8 +8,10 @@ use lib.Dec.{eqb}
 use lib.ListN.{length, getD}
 use borrow.Author.Tests.{lt-ltb, le-ltb}
 use Rattle.text.specs.Bytes.{bytes, same}
-use Rattle.text.specs.Lines.{lines, lineFrom}
-use Rattle.events.specs.Parting.{tableLines, tableEnd, hasEvents, eventsEnded, partedOf, openingOf}
+use Rattle.text.specs.Lines.{lines}
+use Rattle.text.specs.Inner.Places.{lineFrom}
+use Rattle.events.specs.Parting.{tableLines, tableEnd, hasEvents, eventsEnded}
+use Rattle.events.specs.Inner.Answers.{partedOf, openingOf}
 use Rattle.events.specs.declared.parting.Parted.{Parted}
 use Rattle.events.specs.declared.parting.Opening.{Opening}
 use Rattle.events.proofs.SearchLaws.{Passed, found-number, found-below, found-place, missing-number, missing-count, missing-place}

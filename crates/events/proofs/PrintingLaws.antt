@@ -4,7 +4,8 @@ use mathlib.Core.List.{List, [], _∷_, _++_, append-assoc}
 use Prim.Native.Nat.{ℕ, _+_}
 use native.Mathlib.Omega.{arith}
 use lib.ListN.{length, length-append}
-use Rattle.text.specs.Output.{decimal, over, overFrom}
+use Rattle.text.specs.Output.{decimal, over}
+use Rattle.text.specs.Inner.Writing.{overFrom}
 use Rattle.events.specs.Printing.{countLine}
 use Rattle.text.proofs.WritingLaws.{over-from}
 

@@ -2,3 +2,4 @@
 pub mod Parting
 pub mod Listing
 pub mod Printing
+pub mod Inner

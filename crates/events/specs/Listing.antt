@@ -53,13 +53,3 @@ eventsOf n input =
     (cond (not (eventsEnded input)) (ragged (tableLines input + 1))
     (cond (ltb 0 (badLine n (eventPart input))) (ragged (tableLines input + 1 + badLine n (eventPart input)))
     (list (values (eventPart input)))))
-
--- the values listed
-abbrev pub listed : Events → List ℤ
-listed (list vs) = vs
-listed (ragged line) = []
-
--- what `read_events` answers with room for so many values
-abbrev pub answerOf : Events → ℕ → Answer
-answerOf (list vs) room = cond (leb (length vs) room) (Values (length vs)) Short
-answerOf (ragged line) room = Ragged line

@@ -32,17 +32,3 @@ eventsEnded input = eqb (getD input (tableEnd input + 6) 0) 10
 -- the events: the bytes behind the line `events` and its LF
 unfoldable pub eventPart : List ℕ → List ℕ
 eventPart input = drop (tableEnd input + 7) input
-
--- what `split` answers; without the line `events`, start and line lie behind the end of the input and its last line
-unfoldable pub partedOf : List ℕ → Parted
-partedOf input = record {
-  table = tableEnd input;
-  found = hasEvents input;
-  ended = eventsEnded input;
-  start = tableEnd input + 7;
-  line = tableLines input + 1;
-}
-
--- what the search for the line `events` answers
-unfoldable pub openingOf : List ℕ → Opening
-openingOf input = record { found = hasEvents input; at = tableEnd input; before = tableLines input }

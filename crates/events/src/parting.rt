@@ -3,7 +3,7 @@ ghost use mathlib.Core.Path.{_≡_};
 ghost use Prim.Native.Nat.{_+_, _≤_};
 ghost use lib.Dec.{eqb};
 ghost use lib.ListN.{length, getD};
-ghost use Rattle.events.specs.Parting.{openingOf, partedOf};
+ghost use Rattle.events.specs.Inner.Answers.{openingOf, partedOf};
 use text::lines::find;
 use text::lines::line_from;
 use text::names::same;

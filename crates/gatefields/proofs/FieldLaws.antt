@@ -5,7 +5,7 @@ use mathlib.Core.List.{List, [], _∷_}
 use Prim.Native.Nat.{ℕ, _-_}
 use native.Mathlib.Omega.{arith}
 use lib.ListN.{length, drop}
-use Rattle.text.specs.Lines.{findField}
+use Rattle.text.specs.Inner.Places.{findField}
 use Rattle.gates.specs.Kinds.{isComplement, dimensionOf}
 
 pub no-complement : (x : List ℕ) → length x ≡ 0 → false ≡ isComplement x

@@ -4,7 +4,7 @@ ghost use mathlib.Core.Bool.{cond};
 ghost use Prim.Native.Nat.{_-_};
 ghost use lib.ListN.{length, drop};
 ghost use Rattle.text.specs.Lines.{fields};
-ghost use Rattle.gates.specs.Kinds.{kindOf, lineKind, isUnknown, isQuad, isStar, isNone, isParent, isComplement, operandName, isOperand, dimensionOf, valueOf};
+ghost use Rattle.gates.specs.Kinds.{kindNamed, lineKind, isUnknown, isQuad, isStar, isNone, isParent, isComplement, operandName, isOperand, dimensionOf, valueOf};
 use gates::LineKind;
 use text::lines::field;
 use text::lines::field_count;
@@ -27,7 +27,7 @@ pub fn minus(x: usize, y: usize) -> usize
 }
 
 fn kind_named(x: &[u8]) -> LineKind
-    ensures { λ r. ⌜ r ≡ kindOf (now (x .entry)) ⌝ }
+    ensures { λ r. ⌜ r ≡ kindNamed (now (x .entry)) ⌝ }
 {
     if same(x, b"rect") {
         return LineKind::Rect;

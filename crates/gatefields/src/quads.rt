@@ -6,14 +6,14 @@ ghost use lib.ListN.{length};
 ghost use lib.Dec.{leb, ltb};
 ghost use Rattle.text.specs.Lines.{fields};
 ghost use Rattle.plans.specs.Indices.{all};
-ghost use Rattle.gates.specs.Quads.{countOf, dividerCount, dividerAt, valueCount, quadrantsAt, quadrantCount, quadrantAt, layoutGood};
+ghost use Rattle.gates.specs.Quads.{countDigit, dividerCount, dividerAt, valueCount, quadrantsAt, quadrantCount, quadrantAt, layoutGood};
 use crate::fields::minus;
 use text::lines::field;
 use text::lines::field_count;
 use text::output::lesser;
 
 fn count_of(x: &[u8]) -> usize
-    ensures { λ r. ⌜ (r ≡ countOf (now (x .entry))) × (r ≤ 3) ⌝ }
+    ensures { λ r. ⌜ (r ≡ countDigit (now (x .entry))) × (r ≤ 3) ⌝ }
 {
     if x.len() != 1 {
         return 0;

@@ -14,7 +14,7 @@ use Rattle.plans.specs.Indices.{howMany}
 use Rattle.plans.proofs.IndexLaws.{howMany-le}
 use Rattle.gates.specs.declared.LineKind.{LineKind}
 use Rattle.gates.specs.Kinds.{lineKind, isQuad, dimensionOf}
-use Rattle.gates.specs.Regions.{regionCount, bodyLength}
+use Rattle.gates.specs.Inner.Regions.{regionCount, bodyLength}
 use Rattle.gates.specs.Quads.{dividerCount, quadrantCount, quadrantAt}
 use Rattle.gates.proofs.QuadLaws.{quadrant-fits}
 

@@ -4,7 +4,7 @@ ghost use Prim.Native.Nat.{_+_};
 ghost use lib.ListN.{drop};
 ghost use Rattle.text.specs.Lines.{fields};
 ghost use Rattle.gates.specs.Kinds.{fieldAt, lineKind};
-ghost use Rattle.gates.specs.Regions.{regionCount, regionName, stepNumber, bodyLength, bodyWordOf};
+ghost use Rattle.gates.specs.Inner.Regions.{regionCount, regionName, stepNumber, bodyLength, bodyWordOf};
 use crate::words::line_word;
 use crate::words::quadrant_word;
 use gatefields::fields::is_quad;

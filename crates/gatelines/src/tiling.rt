@@ -4,7 +4,7 @@ ghost use Prim.Native.Nat.{_<_, _≤_, _^_};
 ghost use Rattle.text.specs.Lines.{fields};
 ghost use Rattle.plans.specs.Indices.{howMany};
 ghost use Rattle.gates.specs.Quads.{dividerCount, dividerValue, quadrantCount, representative as representativeOf};
-ghost use Rattle.gates.specs.Tiling.{interval as intervalOf, holdsInterval, part as partOf, isCombination, holdsCombination, heldOnce, tiles as tilesOf};
+ghost use Rattle.gates.specs.Tiling.{interval as intervalOf, holdsInterval, intervalIn as partOf, isCombination, holdsCombination, heldOnce, tiles as tilesOf};
 use gatefields::fields::is_star;
 use gatefields::fields::pick;
 use gatefields::fields::value_of;

@@ -5,7 +5,7 @@ ghost use lib.ListN.{drop};
 ghost use Rattle.text.specs.Lines.{fields};
 ghost use Rattle.gates.proofs.AcceptedLaws.{Bound};
 ghost use Rattle.gates.specs.Rules.{rectRule, polyRule, ellipRule, dividerRule, dividerOf, quadRule, ruleOf, isDimension};
-ghost use Rattle.gates.specs.Rules.{dimensionPasses, numberRefusal, optionalRefusal, fieldRefusal, fieldsRefusal, unless as unlessOf, repeated as isRepeated, rises as risesOf};
+ghost use Rattle.gates.specs.Rules.{dimensionPasses, numberRefusal, optionalRefusal, fieldRefusal, fieldsRefusal, unless as unlessOf, repeated as isRepeated, uncrossed as risesOf};
 use gatefields::fields::dimension_of;
 use gatefields::fields::is_operand;
 use gatefields::fields::is_parent;

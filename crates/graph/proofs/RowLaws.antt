@@ -31,7 +31,7 @@ use Rattle.tables.specs.Steps.{isWritten, ready, waiting, nextRegion}
 use Rattle.tables.proofs.ListLaws.{some-at, some-found, every-at, every-of, unless}
 use Rattle.tables.proofs.LoopLaws.{has-or, row-next}
 use Rattle.tables.proofs.OrderLaws.{no-bit}
-use Rattle.graph.specs.Rows.{bitAt, joined, within, held, Referring}
+use Rattle.graph.specs.Inner.Rows.{bitAt, joined, isSubset, held, Referring}
 
 -- ---- a row at a time
 
@@ -133,12 +133,12 @@ union-within =
             let e : b % 2 ≡ 1 = eqb-true (b % 2) 1 (sym (odd-bit b) ∙ h (odd-bit a ∙ eq-eqb (a % 2) 1 (omega arith))) in
             omega arith
 
-pub within-at : (a b k : ℕ) → within a b ≡ true → hasBit a k ≡ true → hasBit b k ≡ true
-unfolding within
+pub within-at : (a b k : ℕ) → isSubset a b ≡ true → hasBit a k ≡ true → hasBit b k ≡ true
+unfolding isSubset
 within-at a b k e h = sym (ap (λ (x : ℕ). hasBit x k) (eqb-true (bitOr a b) b e)) ∙ has-or a b k ∙ rw h
 
-pub within-of : (a b : ℕ) → ((k : ℕ) → hasBit a k ≡ true → hasBit b k ≡ true) → within a b ≡ true
-unfolding within
+pub within-of : (a b : ℕ) → ((k : ℕ) → hasBit a k ≡ true → hasBit b k ≡ true) → isSubset a b ≡ true
+unfolding isSubset
 within-of a b h = eq-eqb (bitOr a b) b (union-within a b h)
 
 -- ---- the next region
@@ -155,11 +155,11 @@ module _ (rs : List Region) (rows : List ℕ) (f : Referring rs rows) (set : ℕ
       (w .0, w .1, eqb-true (numberOf rs (w .0)) k (w .2))
 
   -- all bits of a row are in the set where all references are written
-  written-row : (r : ℕ) → r < length rs → within (getD rows r 0) set ≡ every (isWritten rs set) (references (nthRegion rs r))
+  written-row : (r : ℕ) → r < length rs → isSubset (getD rows r 0) set ≡ every (isWritten rs set) (references (nthRegion rs r))
   unfolding isWritten
-  written-row r h = go (passed-or-failed (within (getD rows r 0) set))
+  written-row r h = go (passed-or-failed (isSubset (getD rows r 0) set))
     where
-      go : (within (getD rows r 0) set ≡ true) ⊎ (within (getD rows r 0) set ≡ false) → within (getD rows r 0) set ≡ every (isWritten rs set) (references (nthRegion rs r))
+      go : (isSubset (getD rows r 0) set ≡ true) ⊎ (isSubset (getD rows r 0) set ≡ false) → isSubset (getD rows r 0) set ≡ every (isWritten rs set) (references (nthRegion rs r))
       go (inl e) = e ∙ sym (every-of (isWritten rs set) (references (nthRegion rs r)) (λ n m. within-at (getD rows r 0) set (numberOf rs n) e (row-has r h n m)))
       go (inr e) =
           e ∙ sym (unless (every (isWritten rs set) (references (nthRegion rs r)))
@@ -172,7 +172,7 @@ module _ (rs : List Region) (rows : List ℕ) (f : Referring rs rows) (set : ℕ
 
 -- ---- the test of a row
 
-module _ (rows : List ℕ) (set r row : ℕ) (taken fits : Bool) (e : row ≡ getD rows r 0) (t : taken ≡ hasBit set r) (f : fits ≡ within row set) where
+module _ (rows : List ℕ) (set r row : ℕ) (taken fits : Bool) (e : row ≡ getD rows r 0) (t : taken ≡ hasBit set r) (f : fits ≡ isSubset row set) where
   pub held-not : (not taken && fits) ≡ true → held rows set r ≡ false
   unfolding held
   held-not h = rw (← e, ← f, ← t, h)

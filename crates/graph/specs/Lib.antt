@@ -1,2 +1,2 @@
 -- Rows of bits.
-pub mod Rows
+pub mod Inner

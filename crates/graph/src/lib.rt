@@ -8,7 +8,7 @@ ghost use Rattle.plans.specs.Bits.{hasBit};
 ghost use Rattle.plans.specs.Indices.{firstBad};
 ghost use Rattle.text.specs.Bounded.{tab};
 ghost use Rattle.tables.specs.Reaching.{reachesBy};
-ghost use Rattle.graph.specs.Rows.{bitAt, joined, within, held};
+ghost use Rattle.graph.specs.Inner.Rows.{bitAt, joined, isSubset, held};
 use plans::bits::has_bit;
 
 // Row a has bit b: a refers to b, or reaches it.
@@ -74,7 +74,7 @@ pub fn reach(rows: Rows, n: usize) -> Rows
 
 // Whether each bit of a is one of b.
 fn is_within(a: u64, b: u64) -> bool
-    ensures { λ r. ⌜ r ≡ within a b ⌝ }
+    ensures { λ r. ⌜ r ≡ isSubset a b ⌝ }
 {
     (a | b) == b
 }

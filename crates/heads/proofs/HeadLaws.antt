@@ -11,7 +11,8 @@ use lib.ListN.{length, getD, drop, length-drop, drop-of-length-le}
 use lib.Seq.{drop-cons, getD-drop}
 use Rattle.plans.specs.Form.{spans}
 use Rattle.text.specs.Bytes.{every}
-use Rattle.text.specs.Lines.{lines, lineFrom, findField}
+use Rattle.text.specs.Lines.{lines}
+use Rattle.text.specs.Inner.Places.{lineFrom, findField}
 use Rattle.text.specs.Names.{isName}
 use Rattle.text.proofs.BytesLaws.{same-refl}
 use Rattle.text.proofs.LinesLaws.{lines-cut, lines-end, line-none, find-field-from, find-field-is, find-field-first}

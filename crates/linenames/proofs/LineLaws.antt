@@ -21,7 +21,7 @@ use Rattle.text.proofs.TestLaws.{true≢false, and-left, and-right}
 use Rattle.gates.specs.Gate.{Name, Operand, Quadrant, Region, gateRegions}
 use Rattle.gates.specs.Kinds.{fieldAt, lineKind, isQuad, isNone, operandName}
 use Rattle.gates.specs.Quads.{quadrantCount, quadrantAt}
-use Rattle.gates.specs.Regions.{regionCount, regionName}
+use Rattle.gates.specs.Inner.Regions.{regionCount, regionName}
 use Rattle.gates.specs.Meaning.{quadrantOf, operandOf, operandsOf, bodyOf, parentOf, gateOf}
 use Rattle.gates.specs.declared.LineKind.{LineKind}
 use Rattle.gates.specs.declared.LineKind.the-variants.{Rect, Poly, Ellip, Quad, And, Or, Not, Unknown}
@@ -31,7 +31,7 @@ use Rattle.tables.specs.Rules.{Distinct}
 use Rattle.tables.specs.Reaching.{isIn, refersTo}
 use Rattle.tables.proofs.ListLaws.{some-at, some-found, not-not}
 use Rattle.tables.proofs.NameLaws.{same-not, distinct-at, at-distinct, different-distinct, distinct-different}
-use Rattle.linenames.specs.LineNames.{otherRegion, regionNamed, namesRegion, quadCount, quadrantName, otherQuadrant, quadrantNamed, givesName, sharesQuadrant, sharesName, newQuadrant, ownDifferent, endIn, referenceEnd, hasReference, referenceAt, passesBy, refersLine}
+use Rattle.linenames.specs.Inner.LineNames.{otherRegion, regionNamed, namesRegion, quadCount, quadrantName, otherQuadrant, quadrantNamed, givesName, sharesQuadrant, sharesName, newQuadrant, ownDifferent, endIn, referenceEnd, hasReference, referenceAt, passesBy, refersLine}
 use Rattle.linenames.proofs.TabLaws.{both-ways, tab-in, in-tab, found-some, any-some}
 
 module _ (head fs : List (List ℕ)) where

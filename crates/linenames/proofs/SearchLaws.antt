@@ -12,8 +12,8 @@ use Rattle.plans.specs.Indices.{any, firstBad}
 use Rattle.text.specs.Bytes.{same}
 use Rattle.gates.specs.Kinds.{fieldAt, lineKind, isQuad}
 use Rattle.gates.specs.Quads.{quadrantCount, quadrantAt}
-use Rattle.gates.specs.Regions.{regionCount, regionName}
-use Rattle.linenames.specs.LineNames.{otherRegion, namesRegion, quadCount, quadrantName, otherQuadrant, givesName, sharesQuadrant, sharesName, referenceEnd, hasReference, referenceAt, passesBy, refersLine}
+use Rattle.gates.specs.Inner.Regions.{regionCount, regionName}
+use Rattle.linenames.specs.Inner.LineNames.{otherRegion, namesRegion, quadCount, quadrantName, otherQuadrant, givesName, sharesQuadrant, sharesName, referenceEnd, hasReference, referenceAt, passesBy, refersLine}
 
 module _ (fs : List (List ℕ)) (q : ℕ) where
   pub quadrant-read : (k : ℕ) → k ≡ cond (ltb q (quadrantCount fs)) (quadrantAt fs q) (length fs) → getD fs k [] ≡ quadrantName fs q

@@ -1,2 +1,2 @@
 -- The names of gate lines.
-pub mod LineNames
+pub mod Inner

@@ -2,7 +2,7 @@
 ghost use mathlib.Core.Path.{_≡_};
 ghost use Prim.Native.Nat.{_≤_, max};
 ghost use Rattle.text.specs.Lines.{fields};
-ghost use Rattle.linenames.specs.LineNames.{regionNamed, namesRegion, quadCount, quadrantName, quadrantNamed, givesName, sharesName, newQuadrant, ownDifferent, endIn, referenceEnd, hasReference, referenceAt, refersLine};
+ghost use Rattle.linenames.specs.Inner.LineNames.{regionNamed, namesRegion, quadCount, quadrantName, quadrantNamed, givesName, sharesName, newQuadrant, ownDifferent, endIn, referenceEnd, hasReference, referenceAt, refersLine};
 use gatefields::fields::is_none;
 use gatefields::fields::is_quad;
 use gatefields::fields::kind_of;

@@ -8,7 +8,7 @@ use Rattle.text.specs.Lines.{fields, lines}
 use Rattle.text.proofs.NamesLaws.{name-length}
 use Rattle.gates.specs.Gate.{Region, gateRegions, regions}
 use Rattle.gates.specs.Meaning.{gateOf}
-use Rattle.gates.specs.Regions.{regionCount, regionName}
+use Rattle.gates.specs.Inner.Regions.{regionCount, regionName}
 use Rattle.gates.proofs.GateLaws.{region-count, region-at, region-name}
 use Rattle.tables.specs.Table.{_∈_, noRegion, nthRegion}
 use Rattle.tables.specs.Head.{headFields, dimensions, gateLines, lineGate, gates}
@@ -16,7 +16,7 @@ use Rattle.tables.proofs.ListLaws.{map-from, at-in, index-of}
 use Rattle.tables.proofs.GateLaws.{gate-of-region}
 use Rattle.tables.proofs.Acceptance.{Accepted}
 use Rattle.tables.proofs.CompileLaws.{head-width}
-use Rattle.resolve.specs.Reading.{gatesAt}
+use Rattle.resolve.specs.Inner.Reading.{gatesAt}
 use Rattle.resolve.proofs.StartLaws.{Indexed, gates-read}
 use Rattle.compiler.proofs.SettledLaws.{lines-regions}
 

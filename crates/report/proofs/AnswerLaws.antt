@@ -14,13 +14,13 @@ use Rattle.counter.specs.Counting.{counting}
 use Rattle.gates.specs.Gate.{Region, regions}
 use Rattle.tables.specs.Head.{gates}
 use Rattle.tables.specs.Refusals.{tableVerdict}
-use Rattle.compiler.specs.Answers.{refusal as tableRefusal}
+use Rattle.compiler.specs.Answers.{tableRefusal as tableRefusal}
 use Rattle.compiler.specs.declared.Refusal.{Refusal as TableRefusal}
 use Rattle.compiler.specs.declared.Compiled.{Compiled}
 use Rattle.compiler.specs.declared.Compiled.the-variants.{Written, Refused as Uncompiled}
 use Rattle.events.specs.Printing.{refusedLine}
 use Rattle.report.specs.Report.{tallyLines, unlessRefused, countedLines}
-use Rattle.report.specs.Answers.{Compiles}
+use Rattle.report.specs.Inner.Answers.{Compiles}
 
 module _ (v : Verdict) (lines : List ℕ) where
   pub unless-passed : v .number ≡ 0 → unlessRefused v lines ≡ lines

@@ -15,14 +15,16 @@ use Rattle.gates.specs.Gate.{regions}
 use Rattle.tables.specs.Head.{dimensions, gates}
 use Rattle.tables.specs.Refusals.{tableVerdict}
 use Rattle.tables.specs.Compile.{planOf}
-use Rattle.events.specs.Parting.{tablePart, partedOf}
-use Rattle.events.specs.Listing.{Events, list, ragged, eventsOf, listed, answerOf}
+use Rattle.events.specs.Parting.{tablePart}
+use Rattle.events.specs.Inner.Answers.{partedOf}
+use Rattle.events.specs.Listing.{Events, list, ragged, eventsOf}
+use Rattle.events.specs.Inner.Answers.{listed, answerOf}
 use Rattle.events.specs.Printing.{refusedLine}
 use Rattle.events.specs.declared.parting.Parted.{Parted}
 use Rattle.events.specs.declared.listing.Answer.{Answer}
 use Rattle.events.proofs.EventTheorems.{values-few}
 use Rattle.report.specs.Report.{unlessRefused, countedLines, printed, reportOf}
-use Rattle.report.specs.Answers.{valueCount, answeredLines}
+use Rattle.report.specs.Inner.Answers.{readCount, answeredLines}
 use Rattle.report.proofs.TableLaws.{answers-printed}
 
 -- ---- over 65,536 bytes, or not
@@ -53,15 +55,15 @@ module _ (n : ℕ) (input : List ℕ) (h : length input ≤ 65536) where
       go (list vs) e = omega (arith, values-few n input vs e)
       go (ragged line) e = omega arith
 
-count-listed : (es : Events) (room : ℕ) → length (listed es) ≤ room → valueCount (answerOf es room) ≡ length (listed es)
+count-listed : (es : Events) (room : ℕ) → length (listed es) ≤ room → readCount (answerOf es room) ≡ length (listed es)
 count-listed (list vs) room h = rw (le-leb (length vs) room h)
 count-listed (ragged line) room h = refl
 
 -- k values are read over the beginning of a list of 32,768, which became x
 module _ (n : ℕ) (input : List ℕ) (h : length input ≤ 65536) (d x : List ℤ) (room : length d ≡ 32768) (a : Answer) (k : ℕ)
-    (e : a ≡ answerOf (eventsOf n input) (length d)) (f : x ≡ over (listed (eventsOf n input)) d) (g : k ≡ valueCount a) where
+    (e : a ≡ answerOf (eventsOf n input) (length d)) (f : x ≡ over (listed (eventsOf n input)) d) (g : k ≡ readCount a) where
   value-number : k ≡ length (listed (eventsOf n input))
-  value-number = g ∙ ap valueCount e ∙ count-listed (eventsOf n input) (length d) (omega (arith, listed-few n input h))
+  value-number = g ∙ ap readCount e ∙ count-listed (eventsOf n input) (length d) (omega (arith, listed-few n input h))
 
   pub values-room : k ≤ 32768
   values-room = omega (arith, value-number, listed-few n input h)

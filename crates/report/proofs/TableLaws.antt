@@ -22,10 +22,11 @@ use Rattle.compiler.specs.Answers.{compiling}
 use Rattle.compiler.specs.declared.Compiled.{Compiled}
 use Rattle.compiler.specs.declared.Compiled.the-variants.{Written, Refused}
 use Rattle.compiler.proofs.VerdictLaws.{refused-number}
-use Rattle.events.specs.Listing.{Events, list, ragged, listed, answerOf}
+use Rattle.events.specs.Listing.{Events, list, ragged}
+use Rattle.events.specs.Inner.Answers.{listed, answerOf}
 use Rattle.events.specs.declared.listing.Answer.the-variants.{Values, Short}
 use Rattle.report.specs.Report.{unlessRefused, countedLines, eventsLines, printed}
-use Rattle.report.specs.Answers.{answeredLines, Compiles}
+use Rattle.report.specs.Inner.Answers.{answeredLines, Compiles}
 use Rattle.compiler.proofs.VerdictLaws.{verdict-numbered, number-accepted}
 
 -- ---- compiling

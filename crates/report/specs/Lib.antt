@@ -1,3 +1,3 @@
 -- What is printed of an input.
 pub mod Report
-pub mod Answers
+pub mod Inner

@@ -3,16 +3,16 @@ ghost use mathlib.Core.Path.{_≡_};
 ghost use Prim.Native.Nat.{ℕ, _≤_, _<_};
 ghost use lib.ListN.{length, getD};
 ghost use Rattle.counter.specs.Counting.{counting};
-ghost use Rattle.text.specs.Output.{over};
+ghost use Rattle.text.specs.Output.{over, Writes};
 ghost use Rattle.gates.specs.Gate.{regions};
 ghost use Rattle.tables.specs.Table.{nthRegion};
 ghost use Rattle.tables.specs.Head.{dimensions, gates};
 ghost use Rattle.tables.specs.Refusals.{tableVerdict};
-ghost use Rattle.resolve.specs.Reading.{gatesAt};
+ghost use Rattle.resolve.specs.Inner.Reading.{gatesAt};
 ghost use Rattle.events.specs.Parting.{tablePart};
 ghost use Rattle.events.specs.Listing.{eventsOf};
 ghost use Rattle.report.specs.Report.{regionLines, tallyLines, unlessRefused, countedLines, printed, reportOf};
-ghost use Rattle.report.specs.Answers.{valueCount, answeredLines, Compiles};
+ghost use Rattle.report.specs.Inner.Answers.{readCount, answeredLines, Compiles};
 use compiler::Compiled;
 use compiler::number_of;
 use compiler::place_of;
@@ -50,7 +50,7 @@ fn put_regions(
     tally: Tally,
 ) -> usize
     requires { ⌜ (m ≤ 64) × (m ≤ length (regions (gatesAt (now text) (starts .at) n))) × ((k : ℕ) → k < m → length (nthRegion (regions (gatesAt (now text) (starts .at) n)) k .name) ≤ 16) ⌝ }
-    ensures { λ r. ⌜ (r ≡ length (regionLines (regions (gatesAt (now (text .entry)) (starts .at) n)) (tally .counts) m)) × (now (out .exit) ≡ over (regionLines (regions (gatesAt (now (text .entry)) (starts .at) n)) (tally .counts) m) (now (out .entry))) × (r ≤ 2432) ⌝ }
+    ensures { λ r. ⌜ (Writes (regionLines (regions (gatesAt (now (text .entry)) (starts .at) n)) (tally .counts) m) (now (out .entry)) (now (out .exit)) r) × (r ≤ 2432) ⌝ }
 {
     let mut at: usize = 0;
     let mut r = 0;
@@ -65,7 +65,7 @@ fn put_regions(
 // Writes the lines of a tally over the beginning of out, by an accepted table with m regions.
 fn put_tally(out: &mut [u8], text: &[u8], m: usize, tally: Tally) -> usize
     requires { ⌜ (tableVerdict 4096 (now text) .number ≡ 0) × (m ≡ length (regions (gates (now text)))) ⌝ }
-    ensures { λ r. ⌜ (r ≡ length (tallyLines (regions (gates (now (text .entry)))) tally)) × (now (out .exit) ≡ over (tallyLines (regions (gates (now (text .entry)))) tally) (now (out .entry))) ⌝ }
+    ensures { λ r. ⌜ Writes (tallyLines (regions (gates (now (text .entry)))) tally) (now (out .entry)) (now (out .exit)) r ⌝ }
 {
     let starts = starts_of(text);
     let n = starts.lines - 1;
@@ -77,7 +77,7 @@ fn put_tally(out: &mut [u8], text: &[u8], m: usize, tally: Tally) -> usize
 // Writes what counting answered.
 fn put_counted(out: &mut [u8], text: &[u8], m: usize, counted: Counted) -> usize
     requires { ⌜ (tableVerdict 4096 (now text) .number ≡ 0) × (m ≡ length (regions (gates (now text)))) ⌝ }
-    ensures { λ r. ⌜ (r ≡ length (countedLines (regions (gates (now (text .entry)))) (counting counted))) × (now (out .exit) ≡ over (countedLines (regions (gates (now (text .entry)))) (counting counted)) (now (out .entry))) ⌝ }
+    ensures { λ r. ⌜ Writes (countedLines (regions (gates (now (text .entry)))) (counting counted)) (now (out .entry)) (now (out .exit)) r ⌝ }
 {
     let answer = counted.answer;
     let tally = counted.tally;
@@ -94,7 +94,7 @@ fn put_counted(out: &mut [u8], text: &[u8], m: usize, counted: Counted) -> usize
 // Writes what reading the events answered, or what counting them did.
 fn put_answer(out: &mut [u8], text: &[u8], m: usize, answer: Answer, counted: Counted) -> usize
     requires { ⌜ (tableVerdict 4096 (now text) .number ≡ 0) × (m ≡ length (regions (gates (now text)))) ⌝ }
-    ensures { λ r. ⌜ (r ≡ length (answeredLines answer (countedLines (regions (gates (now (text .entry)))) (counting counted)))) × (now (out .exit) ≡ over (answeredLines answer (countedLines (regions (gates (now (text .entry)))) (counting counted))) (now (out .entry))) ⌝ }
+    ensures { λ r. ⌜ Writes (answeredLines answer (countedLines (regions (gates (now (text .entry)))) (counting counted))) (now (out .entry)) (now (out .exit)) r ⌝ }
 {
     match answer {
         Answer::Values(_) => put_counted(out, text, m, counted),
@@ -105,7 +105,7 @@ fn put_answer(out: &mut [u8], text: &[u8], m: usize, answer: Answer, counted: Co
 
 // How many values were read.
 fn value_count(answer: Answer) -> usize
-    ensures { λ r. ⌜ r ≡ valueCount answer ⌝ }
+    ensures { λ r. ⌜ r ≡ readCount answer ⌝ }
 {
     match answer {
         Answer::Values(n) => n,
@@ -123,7 +123,7 @@ fn put_table(
     counted: Counted,
 ) -> usize
     requires { ⌜ Compiles (now text) compiled ⌝ }
-    ensures { λ r. ⌜ (r ≡ length (unlessRefused (tableVerdict 4096 (now (text .entry))) (answeredLines answer (countedLines (regions (gates (now (text .entry)))) (counting counted))))) × (now (out .exit) ≡ over (unlessRefused (tableVerdict 4096 (now (text .entry))) (answeredLines answer (countedLines (regions (gates (now (text .entry)))) (counting counted)))) (now (out .entry))) ⌝ }
+    ensures { λ r. ⌜ Writes (unlessRefused (tableVerdict 4096 (now (text .entry))) (answeredLines answer (countedLines (regions (gates (now (text .entry)))) (counting counted)))) (now (out .entry)) (now (out .exit)) r ⌝ }
 {
     match compiled {
         Compiled::Written { words: _, regions } => put_answer(out, text, regions, answer, counted),
@@ -134,7 +134,7 @@ fn put_table(
 // Writes what is printed of an input of at most 65,536 bytes, with room for its plan and its events.
 fn put_report(input: &[u8], plan: &mut [i32], list: &mut [i32], out: &mut [u8]) -> usize
     requires { ⌜ (length (now input) ≤ 65536) × (length (now plan) ≡ 4096) × (length (now list) ≡ 32768) ⌝ }
-    ensures { λ r. ⌜ (r ≡ length (printed (tablePart (now (input .entry))) (eventsOf (length (dimensions (tablePart (now (input .entry))))) (now (input .entry))))) × (now (out .exit) ≡ over (printed (tablePart (now (input .entry))) (eventsOf (length (dimensions (tablePart (now (input .entry))))) (now (input .entry)))) (now (out .entry))) ⌝ }
+    ensures { λ r. ⌜ Writes (printed (tablePart (now (input .entry))) (eventsOf (length (dimensions (tablePart (now (input .entry))))) (now (input .entry)))) (now (out .entry)) (now (out .exit)) r ⌝ }
 {
     let parted = split(input);
     let end = parted.table;
@@ -164,7 +164,7 @@ fn list_room() -> [i32; 32768]
 // Writes the report of an input over the beginning of out, as far as it goes, and answers how long it is: at most 4,096 bytes
 // (the theorem report-fits).
 pub fn report(input: &[u8], out: &mut [u8]) -> usize
-    ensures { λ r. ⌜ (r ≡ length (reportOf (now (input .entry)))) × (now (out .exit) ≡ over (reportOf (now (input .entry))) (now (out .entry))) ⌝ }
+    ensures { λ r. ⌜ Writes (reportOf (now (input .entry))) (now (out .entry)) (now (out .exit)) r ⌝ }
 {
     if 65536 < input.len() {
         return put_refused(out, 1, 0);

@@ -13,9 +13,9 @@ use Rattle.plans.proofs.IndexLaws.{first-same}
 use Rattle.tables.specs.Head.{dimensions}
 use Rattle.tables.specs.Reaching.{refersTo, refersAt, reachesBy, reachesItself}
 use Rattle.tables.specs.Refusals.{uncircled}
-use Rattle.graph.specs.Rows.{bitAt}
+use Rattle.graph.specs.Inner.Rows.{bitAt}
 use Rattle.linenames.proofs.LineLaws.{refers-line}
-use Rattle.resolve.specs.Reading.{fieldsAt, gatesAt, refersBy}
+use Rattle.resolve.specs.Inner.Reading.{fieldsAt, gatesAt, refersBy}
 use Rattle.resolve.proofs.ReadLaws.{gates-nth, gates-length}
 
 -- one row more

@@ -9,9 +9,9 @@ use lib.ListN.{length}
 use borrow.Author.Tests.{le-leb, lt-leb}
 use Rattle.text.specs.Lines.{fields}
 use Rattle.gates.specs.Gate.{regions}
-use Rattle.gates.specs.Regions.{regionCount}
+use Rattle.gates.specs.Inner.Regions.{regionCount}
 use Rattle.tables.specs.Refusals.{uncrowded}
-use Rattle.resolve.specs.Reading.{lineAt, fieldsAt, gatesAt}
+use Rattle.resolve.specs.Inner.Reading.{lineAt, fieldsAt, gatesAt}
 use Rattle.resolve.proofs.ReadLaws.{gates-up-to, count-more, count-fits}
 
 module _ (text starts : List ℕ) where

@@ -14,9 +14,9 @@ use Rattle.tables.specs.Table.{nthGate, gateReferences, numberOf}
 use Rattle.tables.specs.Head.{dimensions}
 use Rattle.tables.specs.Refusals.{isRegion, living}
 use Rattle.tables.proofs.ListLaws.{every-at, every-of, unless}
-use Rattle.linenames.specs.LineNames.{referenceEnd, hasReference, referenceAt}
+use Rattle.linenames.specs.Inner.LineNames.{referenceEnd, hasReference, referenceAt}
 use Rattle.linenames.proofs.LineLaws.{reference-in, in-reference}
-use Rattle.resolve.specs.Reading.{lineAt, fieldsAt, gatesAt}
+use Rattle.resolve.specs.Inner.Reading.{lineAt, fieldsAt, gatesAt}
 use Rattle.resolve.proofs.ReadLaws.{gateAt, gates-nth}
 
 module _ (text starts : List ℕ) (n i : ℕ) (h : i < n) where

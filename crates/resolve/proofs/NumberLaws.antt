@@ -12,10 +12,10 @@ use Rattle.plans.proofs.IndexLaws.{first-at, first-before, first-skip, first-is
 use Rattle.text.specs.Lines.{fields}
 use Rattle.text.specs.Bytes.{same}
 use Rattle.gates.specs.Gate.{Name, regions}
-use Rattle.gates.specs.Regions.{regionCount}
+use Rattle.gates.specs.Inner.Regions.{regionCount}
 use Rattle.tables.specs.Table.{otherName, numberOf}
-use Rattle.linenames.specs.LineNames.{otherRegion, regionNamed}
-use Rattle.resolve.specs.Reading.{lineAt, fieldsAt, gatesAt}
+use Rattle.linenames.specs.Inner.LineNames.{otherRegion, regionNamed}
+use Rattle.resolve.specs.Inner.Reading.{lineAt, fieldsAt, gatesAt}
 use Rattle.resolve.proofs.ReadLaws.{count-more, count-fits, region-named}
 
 module _ (text starts : List ℕ) (n : ℕ) (x : Name) (i : ℕ) (h : i < n) (base : ℕ) (b : base ≡ length (regions (gatesAt text starts i))) where

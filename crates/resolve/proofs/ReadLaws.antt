@@ -11,12 +11,12 @@ use Rattle.text.proofs.BoundedLaws.{length-tab}
 use Rattle.gates.specs.Gate.{Gate, Region, gateRegions, regions}
 use Rattle.gates.specs.Kinds.{fieldAt}
 use Rattle.gates.specs.Meaning.{parentOf, gateOf}
-use Rattle.gates.specs.Regions.{regionCount, regionName, regionShape}
+use Rattle.gates.specs.Inner.Regions.{regionCount, regionName, regionShape}
 use Rattle.gates.proofs.GateLaws.{map-last, region-count, region-at}
 use Rattle.tables.specs.Table.{noGate, nthGate, noRegion, nthRegion, upTo}
 use Rattle.tables.specs.Head.{dimensions, lineGate}
 use Rattle.tables.proofs.RegionLaws.{regions-append, region-number}
-use Rattle.resolve.specs.Reading.{lineAt, fieldsAt, gatesAt}
+use Rattle.resolve.specs.Inner.Reading.{lineAt, fieldsAt, gatesAt}
 
 module _ (text starts : List ℕ) where
   abbrev pub gateAt : ℕ → Gate

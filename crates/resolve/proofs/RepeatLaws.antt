@@ -19,10 +19,10 @@ use Rattle.tables.proofs.ListLaws.{some-at, some-found, or-passes, unless}
 use Rattle.tables.proofs.NameLaws.{in-list, list-in, split, unite, different-distinct, distinct-different}
 use Rattle.tables.proofs.RegionLaws.{given-append}
 use Rattle.text.specs.Lines.{fields}
-use Rattle.linenames.specs.LineNames.{ownDifferent, sharesName}
+use Rattle.linenames.specs.Inner.LineNames.{ownDifferent, sharesName}
 use Rattle.linenames.proofs.TabLaws.{both-ways}
 use Rattle.linenames.proofs.LineLaws.{own-different, shares-name}
-use Rattle.resolve.specs.Reading.{lineAt, fieldsAt, gatesAt, sharesAt, repeatsAt}
+use Rattle.resolve.specs.Inner.Reading.{lineAt, fieldsAt, gatesAt, sharesAt, repeatsAt}
 use Rattle.resolve.proofs.ReadLaws.{gateAt, gates-more, gates-up-to}
 
 any-found : (test : ℕ → Bool) (n : ℕ) → any test n ≡ true → (i : ℕ) × (i < n) × (test i ≡ true)

@@ -11,8 +11,8 @@ use Rattle.plans.specs.Bits.{hasBit, withBit}
 use Rattle.plans.proofs.BitLaws.{has-with-same, has-with-other}
 use Rattle.text.specs.Lines.{fields}
 use Rattle.tables.proofs.OrderLaws.{no-bit}
-use Rattle.linenames.specs.LineNames.{refersLine}
-use Rattle.resolve.specs.Reading.{lineAt, fieldsAt, refersBy}
+use Rattle.linenames.specs.Inner.LineNames.{refersLine}
+use Rattle.resolve.specs.Inner.Reading.{lineAt, fieldsAt, refersBy}
 
 -- the first k bits of a row are a test's
 abbrev pub Row : (ℕ → Bool) → ℕ → ℕ → Type 0

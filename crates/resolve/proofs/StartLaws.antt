@@ -12,7 +12,7 @@ use Rattle.text.proofs.BoundedLaws.{length-tab, getD-tab}
 use Rattle.text.proofs.LinesLaws.{lineStarts-length, line-at-start}
 use Rattle.text.proofs.OutputLaws.{getD-over}
 use Rattle.tables.specs.Head.{dimensions, gateLines, lineGate, gates}
-use Rattle.resolve.specs.Reading.{lineAt, gatesAt}
+use Rattle.resolve.specs.Inner.Reading.{lineAt, gatesAt}
 
 -- the places of the lines lead to the gate lines
 abbrev pub Indexed : List ℕ → List ℕ → Type 0

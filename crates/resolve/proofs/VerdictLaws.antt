@@ -17,15 +17,15 @@ use Rattle.text.specs.Bounded.{tab}
 use Rattle.text.proofs.BoundedLaws.{length-tab, getD-tab}
 use Rattle.text.specs.Lines.{lines, fields}
 use Rattle.gates.specs.Gate.{Gate, one, regions}
-use Rattle.gates.specs.Regions.{regionCount}
+use Rattle.gates.specs.Inner.Regions.{regionCount}
 use Rattle.gates.specs.Rules.{noRefusal}
 use Rattle.gates.specs.Refusal.{lineRefusal}
 use Rattle.gates.proofs.GateLaws.{regions-some}
 use Rattle.tables.specs.Table.{upTo}
 use Rattle.tables.specs.Head.{dimensions, gateLines, lineGate, gates}
 use Rattle.tables.specs.Refusals.{unlessLine, refusalAt, lineGood, always, uncrowded, unrepeated, living, uncircled}
-use Rattle.resolve.specs.Reading.{lineAt, fieldsAt, gatesAt}
-use Rattle.resolve.specs.NamedVerdict.{GoodLines, namesVerdict}
+use Rattle.resolve.specs.Inner.Reading.{lineAt, fieldsAt, gatesAt}
+use Rattle.resolve.specs.Inner.NamedVerdict.{GoodLines, namesVerdict}
 use Rattle.resolve.proofs.ReadLaws.{gates-up-to, count-more}
 use Rattle.resolve.proofs.StartLaws.{Indexed}
 use Rattle.resolve.proofs.CrowdLaws.{total-none}

@@ -1,3 +1,2 @@
 -- Gates as they are read through the places of their lines, and refusals 13 to 16.
-pub mod Reading
-pub mod NamedVerdict
+pub mod Inner

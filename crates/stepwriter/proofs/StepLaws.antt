@@ -18,20 +18,20 @@ use Rattle.gates.specs.Kinds.{fieldAt, lineKind, isNone, isComplement, operandN
 use Rattle.gates.specs.Rules.{noRefusal}
 use Rattle.gates.specs.Refusal.{lineRefusal}
 use Rattle.gates.specs.Meaning.{parentOf}
-use Rattle.gates.specs.Regions.{regionCount, regionName, regionShape, stepNumber, bodyLength, bodyWordOf}
+use Rattle.gates.specs.Inner.Regions.{regionCount, regionName, regionShape, stepNumber, bodyLength, bodyWordOf}
 use Rattle.tables.specs.Head.{headFields, dimensions}
 use Rattle.tables.specs.Table.{nthRegion, numberOf}
 use Rattle.tables.specs.Refusals.{isRegion}
 use Rattle.tables.specs.Steps.{parentWord, stepWords}
-use Rattle.linenames.specs.LineNames.{hasReference, referenceAt}
+use Rattle.linenames.specs.Inner.LineNames.{hasReference, referenceAt}
 use Rattle.linenames.proofs.LineLaws.{end-past}
-use Rattle.resolve.specs.Reading.{lineAt, fieldsAt, gatesAt}
+use Rattle.resolve.specs.Inner.Reading.{lineAt, fieldsAt, gatesAt}
 use Rattle.resolve.proofs.ReadLaws.{count-fits, region-read}
 use Rattle.resolve.proofs.LivingLaws.{living-here}
-use Rattle.writer.specs.Words.{parentNumberWord, header, operandWord, combines, operandAt}
+use Rattle.writer.specs.Inner.Words.{parentNumberWord, header, operandNumberWord, combines, operandAt}
 use Rattle.writer.proofs.WordLaws.{step-more}
 use Rattle.writer.proofs.StepTheorems.{body-short, parent-none, parent-some, leaf-step, combination-step}
-use Rattle.tableregions.specs.Settled.{Settled}
+use Rattle.tableregions.specs.Inner.Settled.{Settled}
 
 -- the regions of the first n gates
 abbrev pub regionsAt : List ℕ → List ℕ → ℕ → List Region
@@ -41,7 +41,7 @@ regionsAt text starts n = regions (gatesAt text starts n)
 
 pub operand-more : (k r p m : ℕ) (rs : List Region) (fs : List (List ℕ)) (d : List ℤ) (j : ℕ) {x : List ℤ} → x ≡ over (header k r p m ++ tab (operandAt rs fs) j) d
     → {f y : List ℕ} → f ≡ fieldAt fs (3 + j) → y ≡ operandName f → {number : ℕ} → number ≡ numberOf rs y → {b : Bool} → b ≡ isComplement f
-    → set x (4 + j) (operandWord number b) ≡ over (header k r p m ++ tab (operandAt rs fs) (j + 1)) d
+    → set x (4 + j) (operandNumberWord number b) ≡ over (header k r p m ++ tab (operandAt rs fs) (j + 1)) d
 unfolding operandAt
 operand-more k r p m rs fs d j e f y number b = rw (number, y, b, f, e) (step-more k r p m (operandAt rs fs) d j)
 

@@ -13,15 +13,16 @@ use borrow.Author.Tests.{lt-ltb, le-ltb, ltb-false, eq-eqb, ne-eqb}
 use Rattle.plans.specs.Indices.{firstBad}
 use Rattle.plans.specs.Refusals.{Verdict, refused}
 use Rattle.plans.proofs.IndexLaws.{first-more, first-stop, first-before}
-use Rattle.text.specs.Lines.{lines, fields, lineFrom, findFrom, endsInLF}
+use Rattle.text.specs.Lines.{lines, fields, endsInLF}
+use Rattle.text.specs.Inner.Places.{lineFrom, findFrom}
 use Rattle.text.proofs.LinesLaws.{lines-cut, lines-end, find-from, find-inside}
 use Rattle.gates.specs.Refusal.{lineRefusal}
 use Rattle.tables.specs.Head.{headFields, dimensions, headGood, gateLines, gates}
 use Rattle.gates.specs.Gate.{regions}
 use Rattle.tables.specs.Steps.{planWords}
 use Rattle.tables.specs.Refusals.{unlessLine, refusalAt, lineGood, sizeVerdict, gatesVerdict, tableVerdict}
-use Rattle.resolve.specs.NamedVerdict.{GoodLines, namesVerdict}
-use Rattle.tablecheck.specs.TextVerdict.{textVerdict}
+use Rattle.resolve.specs.Inner.NamedVerdict.{GoodLines, namesVerdict}
+use Rattle.tablecheck.specs.Inner.TextVerdict.{textVerdict}
 
 -- the cursor stands at gate line i, and none before it is refused
 pub record Cursor (text : List ℕ) (at i : ℕ) : Type 0 where

@@ -1,2 +1,2 @@
 -- Refusals 1 to 16 of a text.
-pub mod TextVerdict
+pub mod Inner

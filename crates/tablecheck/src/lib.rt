@@ -8,7 +8,7 @@ ghost use Rattle.plans.specs.Indices.{firstBad};
 ghost use Rattle.plans.specs.Refusals.{Verdict};
 ghost use Rattle.tables.specs.Head.{dimensions, gateLines};
 ghost use Rattle.tables.specs.Refusals.{refusalAt, lineGood};
-ghost use Rattle.tablecheck.specs.TextVerdict.{answered, textVerdict};
+ghost use Rattle.tablecheck.specs.Inner.TextVerdict.{answered, textVerdict};
 use gatelines::refusal::line_refusal;
 use heads::head_good;
 use heads::head_line;

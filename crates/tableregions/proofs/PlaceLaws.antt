@@ -7,9 +7,9 @@ use native.Mathlib.Numerals.{add-one}
 use lib.ListN.{length}
 use Rattle.text.specs.Lines.{fields}
 use Rattle.gates.specs.Gate.{Name, regions}
-use Rattle.gates.specs.Regions.{regionCount, regionName}
+use Rattle.gates.specs.Inner.Regions.{regionCount, regionName}
 use Rattle.tables.specs.Table.{nthRegion}
-use Rattle.resolve.specs.Reading.{lineAt, fieldsAt, gatesAt}
+use Rattle.resolve.specs.Inner.Reading.{lineAt, fieldsAt, gatesAt}
 use Rattle.resolve.proofs.ReadLaws.{count-more, region-named}
 use Rattle.resolve.proofs.CrowdLaws.{total-none}
 

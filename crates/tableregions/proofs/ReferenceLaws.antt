@@ -18,23 +18,23 @@ use Rattle.gates.specs.declared.LineKind.the-variants.{Rect, Poly, Ellip, Quad,
 use Rattle.gates.specs.Kinds.{fieldAt, lineKind}
 use Rattle.gates.specs.Gate.{Name, regions}
 use Rattle.gates.specs.Meaning.{bodyOf, parentOf, gateOf}
-use Rattle.gates.specs.Regions.{regionCount, shapeIn, regionShape}
+use Rattle.gates.specs.Inner.Regions.{regionCount, lineShape, regionShape}
 use Rattle.tables.specs.Table.{someOf, nthRegion, numberOf, operandNames, parentNames, bodyReferences, gateReferences, references}
 use Rattle.tables.specs.Head.{dimensions}
 use Rattle.tables.specs.Refusals.{isRegion}
 use Rattle.tables.proofs.ListLaws.{some-at, some-found}
 use Rattle.tables.proofs.OrderLaws.{no-bit, with-cases}
-use Rattle.linenames.specs.LineNames.{referenceEnd, hasReference, referenceAt}
+use Rattle.linenames.specs.Inner.LineNames.{referenceEnd, hasReference, referenceAt}
 use Rattle.linenames.proofs.LineLaws.{reference-in, in-reference}
 use Rattle.linenames.proofs.TabLaws.{both-ways}
-use Rattle.resolve.specs.Reading.{lineAt, fieldsAt, gatesAt}
+use Rattle.resolve.specs.Inner.Reading.{lineAt, fieldsAt, gatesAt}
 use Rattle.resolve.proofs.ReadLaws.{gateAt, region-read}
 use Rattle.resolve.proofs.LivingLaws.{living-here}
-use Rattle.tableregions.specs.Settled.{Settled}
+use Rattle.tableregions.specs.Inner.Settled.{Settled}
 
 -- ---- each region of a gate refers to what the gate refers to
 
-same-references : (head : List (List ℕ)) (kind : LineKind) (fs : List (List ℕ)) (q : ℕ) → operandNames (shapeIn head kind fs q) ≡ bodyReferences (bodyOf head kind fs)
+same-references : (head : List (List ℕ)) (kind : LineKind) (fs : List (List ℕ)) (q : ℕ) → operandNames (lineShape head kind fs q) ≡ bodyReferences (bodyOf head kind fs)
 same-references head Rect fs q = refl
 same-references head Poly fs q = refl
 same-references head Ellip fs q = refl

@@ -1,2 +1,2 @@
 -- What is known of a table whose lines and names are checked.
-pub mod Settled
+pub mod Inner

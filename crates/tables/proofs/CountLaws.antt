@@ -17,7 +17,7 @@ use Rattle.plans.specs.Form.{width, checkOf}
 use Rattle.plans.proofs.IndexLaws.{howMany-same}
 use Rattle.counter.specs.Members.{bitsOf}
 use Rattle.counter.specs.Judging.{taken, members}
-use Rattle.counter.specs.Counting.{eventAt, takenAt, spoiltAt, memberAt, table, inRegion, tallyOf, countPassed, countOf}
+use Rattle.counter.specs.Counting.{eventAt, takenAt, spoiltAt, memberAt, listFrom, inRegion, tallyOf, countPassed, countOf}
 use Rattle.text.proofs.TestLaws.{passed-or-failed}
 use Rattle.gates.specs.Gate.{Name, Event, Quadrant, Body, one, quad, Gate, Region, regionsOf, regions}
 use Rattle.gates.proofs.GoodGate.{GoodShape, GoodBody, holders}
@@ -52,8 +52,8 @@ module _ (n : ℕ) (rs : List Region) (values : List ℤ) (m : ℕ) where
   unfolding tallyOf
   tally-spoilt = rw (plan-width n rs)
 
-table-at : (f : ℕ → ℕ) (i m r : ℕ) → r < m → getD (table f i m) r 0 ≡ f (i + r)
-unfolding table
+table-at : (f : ℕ → ℕ) (i m r : ℕ) → r < m → getD (listFrom f i m) r 0 ≡ f (i + r)
+unfolding listFrom
 table-at f i zero r h = absurd (omega arith)
 table-at f i (suc m) zero h = let e : i + 0 ≡ i = omega arith in rw e
 table-at f i (suc m) (suc r) h = let e : i + 1 + r ≡ i + suc r = omega arith in table-at f (i + 1) m r (omega arith) ∙ ap f e

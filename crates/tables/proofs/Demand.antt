@@ -20,7 +20,7 @@ use Rattle.tables.specs.Steps.{planWords}
 use Rattle.tables.specs.Refusals.{tableVerdict}
 use Rattle.tables.specs.Compile.{planOf, compileOf}
 use Rattle.tables.specs.TableCount.{lent, countTableOf}
-use Rattle.tables.specs.Demand.{dims, listed, countOfName, countOfParent, Demand3, KeepsDemand3}
+use Rattle.tables.specs.Demand.{dims, eventCount, countOfName, countOfParent, Demand3, KeepsDemand3}
 use Rattle.tables.proofs.ListLaws.{map-in}
 use Rattle.tables.proofs.NameLaws.{region-of, number-at}
 use Rattle.tables.proofs.SumLaws.{sum-same}
@@ -81,7 +81,7 @@ module _ (text : List ℕ) (accepted : tableVerdict 4096 text ≡ passed) (ks : 
   is-passing = rw is-plan (plan-passes 4096 again b)
 
   -- the tally is that of the plan's words
-  is-counting : countOf (lent (compileOf again slice)) values ≡ record { verdict = passed; tally = tallyOf (planWords n (regions u)) values (listed text values) }
+  is-counting : countOf (lent (compileOf again slice)) values ≡ record { verdict = passed; tally = tallyOf (planWords n (regions u)) values (eventCount text values) }
   is-counting =
       let p = planWords n (regions u) in
       let w = plan-width n (regions u) in
@@ -89,7 +89,7 @@ module _ (text : List ℕ) (accepted : tableVerdict 4096 text ≡ passed) (ks : 
       let k : length values % width p ≡ 0 = rw w complete in
       rw (is-plan, is-words) (counted p values c k ∙ rw w)
 
-  is-tally : tally ≡ tallyOf (planWords n (regions u)) values (listed text values)
+  is-tally : tally ≡ tallyOf (planWords n (regions u)) values (eventCount text values)
   is-tally = ap (λ (c : Counting). c .tally) is-counting
 
   good-again : (g : Gate) → g ∈ u → GoodBody n (g .body)
@@ -104,19 +104,19 @@ module _ (text : List ℕ) (accepted : tableVerdict 4096 text ≡ passed) (ks : 
       ap (λ (x : Region). numberOf (regions u) (x .name)) (sym (i .2)) ∙ number-at (regions u) (orderly u (b .rules) .distinct) (i .0) (i .1) in
       (omega arith, ap (nthRegion (regions u)) e ∙ i .2)
 
-  count-is : (k : Name) → k ∈ names (regions t) → countOfName again tally k ≡ howMany (λ j. member t (eventAt n values j) k) (listed text values)
+  count-is : (k : Name) → k ∈ names (regions t) → countOfName again tally k ≡ howMany (λ j. member t (eventAt n values j) k) (eventCount text values)
   count-is k m =
       ap (λ (y : Tally). getD (y .counts) (numberOf (regions u) k) 0) is-tally
       ∙ count-by-name t u moved (a .rules) n some-values good-again values k (moved-name moved m)
 
-  taken-is : tally .taken ≡ howMany (takenAt n values) (listed text values)
-  taken-is = ap (λ (y : Tally). y .taken) is-tally ∙ tally-taken n (regions u) values (listed text values)
+  taken-is : tally .taken ≡ howMany (takenAt n values) (eventCount text values)
+  taken-is = ap (λ (y : Tally). y .taken) is-tally ∙ tally-taken n (regions u) values (eventCount text values)
 
-  spoilt-is : tally .spoilt ≡ howMany (spoiltAt n values) (listed text values)
-  spoilt-is = ap (λ (y : Tally). y .spoilt) is-tally ∙ tally-spoilt n (regions u) values (listed text values)
+  spoilt-is : tally .spoilt ≡ howMany (spoiltAt n values) (eventCount text values)
+  spoilt-is = ap (λ (y : Tally). y .spoilt) is-tally ∙ tally-spoilt n (regions u) values (eventCount text values)
 
   parent-is : (o : Option Name) → ((k : Name) → k ∈ parentNames o → k ∈ names (regions t))
-      → howMany (λ j. inParentOf t o (eventAt n values j)) (listed text values) ≡ countOfParent again tally o
+      → howMany (λ j. inParentOf t o (eventAt n values j)) (eventCount text values) ≡ countOfParent again tally o
   unfolding takenAt
   parent-is none h = sym taken-is
   parent-is (some k) h = sym (count-is k (h k (here refl)))

@@ -11,7 +11,7 @@ use Rattle.text.proofs.BytesLaws.{same-refl}
 use Rattle.gates.specs.Gate.{Name, Event, Operand, Shape, leaf, and-of, or-of, not-of, Region}
 use Rattle.tables.specs.Table.{_∈_, someOf, nthRegion, names, numberOf, parentNames, operandNames, references}
 use Rattle.tables.specs.Rules.{Distinct}
-use Rattle.tables.specs.Members.{inOperand, inShape, inParent, value, Obeys, round, rounds}
+use Rattle.tables.specs.Members.{inOperand, inShape, inParent, belongs, Obeys, round, rounds}
 use Rattle.tables.proofs.ListLaws.{map-in}
 use Rattle.tables.proofs.NameLaws.{same-not, region-in, region-of, number-name, in-number}
 use Rattle.tables.proofs.OrderLaws.{Orderly, along-order}
@@ -37,7 +37,7 @@ module _ (e : Event) (m m′ : Name → Bool) where
   same-parent none h = refl
   same-parent (some n) h = h n (here refl)
 
-  pub same-value : (r : Region) → ((n : Name) → n ∈ references r → m n ≡ m′ n) → value m e r ≡ value m′ e r
+  pub same-value : (r : Region) → ((n : Name) → n ∈ references r → m n ≡ m′ n) → belongs m e r ≡ belongs m′ e r
   same-value r h =
       rw (same-shape (r .shape) (λ n k. h n (Memᴰ·append-right (parentNames (r .parent)) k)), same-parent (r .parent) (λ n k. h n (Memᴰ·append-left (operandNames (r .shape)) k)))
 
@@ -52,8 +52,8 @@ module _ (e : Event) (m : Name → Bool) where
   or-false true = refl
   or-false false = refl
 
-  at-region : {r : Region} {rs : List Region} → Distinct (names rs) → r ∈ rs → round rs e m (r .name) ≡ value m e r
-  at-region {r} d (here {x = x} {xs = rs} q) = rw q (rw (same-refl (x .name), absent (x .name) rs (d .0)) (or-false (value m e x)))
+  at-region : {r : Region} {rs : List Region} → Distinct (names rs) → r ∈ rs → round rs e m (r .name) ≡ belongs m e r
+  at-region {r} d (here {x = x} {xs = rs} q) = rw q (rw (same-refl (x .name), absent (x .name) rs (d .0)) (or-false (belongs m e x)))
   at-region {r} d (there {x = x} {xs = rs} k) =
       rw (same-not (r .name) (x .name) (λ q. d .0 (Memᴰ·cast (sym q) (map-in (λ (y : Region). y .name) k)))) (at-region (d .1) k)
 

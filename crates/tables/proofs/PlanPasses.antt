@@ -13,7 +13,7 @@ use Rattle.plans.specs.Words.{word, number, inRange}
 use Rattle.plans.specs.Bits.{hasBit, withBit}
 use Rattle.plans.specs.Refusals.{passed, refused}
 use Rattle.plans.specs.Form.{spans, lengthGood, earlier, free, parentGood, operandWord, bodyWord, headWord, width, stepCount}
-use Rattle.plans.specs.Reader.{headRun, bodyRun, stepForm, stepsForm, readForm}
+use Rattle.plans.specs.Inner.Reader.{headRun, bodyRun, stepForm, stepsForm, readForm}
 use Rattle.plans.specs.declared.form.Stepped.{Stepped}
 use Rattle.plans.specs.declared.form.Stepped.the-variants.{Good, Bad}
 use Rattle.plans.proofs.IndexLaws.{first-none}

@@ -4,7 +4,7 @@ use mathlib.Core.List.{List, [], _∷_, List·Permᴰ, List·Permᴰ·cons, Perm
 use Prim.Native.Nat.{ℕ, suc, _+_}
 use native.Mathlib.Omega.{arith}
 use lib.ListN.{length, getD, drop, length-append, length-map}
-use Rattle.text.specs.Bytes.{without}
+use Rattle.text.specs.Inner.Counts.{without}
 use Rattle.text.specs.Lines.{lines, fields, unlines, endsInLF}
 use Rattle.text.proofs.TextTheorems.{unlines-lines, lines-without, lines-unlines}
 use Rattle.text.proofs.TestLaws.{true≢false}

@@ -22,8 +22,8 @@ use Rattle.tables.specs.TableCount.{TableCounting, lent}
 abbrev pub dims : List ℕ → ℕ
 dims text = length (dimensions text)
 
-abbrev pub listed : List ℕ → List ℤ → ℕ
-listed text values = length values / dims text
+abbrev pub eventCount : List ℕ → List ℤ → ℕ
+eventCount text values = length values / dims text
 
 -- the count at the number that the reordered table gives the region of that name
 abbrev pub countOfName : List ℕ → Tally → Name → ℕ
@@ -48,10 +48,10 @@ pub record Demand3 (text again : List ℕ) (values : List ℤ) (c : TableCountin
       → (numberOf (regions (gates again)) (r .name) < 64) × (nthRegion (regions (gates again)) (numberOf (regions (gates again)) (r .name)) ≡ r)
   -- each region, found by its name, has the number of listed events that are its members by the accepted table's own lines
   pub by-name : (r : Region) → r ∈ regions (gates text)
-      → countOfName again (c .counted .tally) (r .name) ≡ howMany (λ j. member (gates text) (eventAt (dims text) values j) (r .name)) (listed text values)
+      → countOfName again (c .counted .tally) (r .name) ≡ howMany (λ j. member (gates text) (eventAt (dims text) values j) (r .name)) (eventCount text values)
   -- the numbers of listed events that are taken and that are spoilt
-  pub all-taken : c .counted .tally .taken ≡ howMany (takenAt (dims text) values) (listed text values)
-  pub all-spoilt : c .counted .tally .spoilt ≡ howMany (spoiltAt (dims text) values) (listed text values)
+  pub all-taken : c .counted .tally .taken ≡ howMany (takenAt (dims text) values) (eventCount text values)
+  pub all-spoilt : c .counted .tally .spoilt ≡ howMany (spoiltAt (dims text) values) (eventCount text values)
   -- the counts of a quadrant gate's quadrants add up
   pub quadrants : (g : Gate) → g ∈ gates text → (qs : List Quadrant) → g .body ≡ quad qs
       → sumOf (λ (q : Quadrant). countOfName again (c .counted .tally) (q .name)) qs ≡ countOfParent again (c .counted .tally) (g .parent)

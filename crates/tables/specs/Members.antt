@@ -28,17 +28,17 @@ module _ (m : Name → Bool) where
   inParent (some n) = m n
 
   -- in the shape and, where there is a parent, in the parent
-  abbrev pub value : Event → Region → Bool
-  value e r = inShape e (r .shape) && inParent (r .parent)
+  abbrev pub belongs : Event → Region → Bool
+  belongs e r = inShape e (r .shape) && inParent (r .parent)
 
 -- 01's equations, one for each region
 abbrev pub Obeys : List Region → Event → (Name → Bool) → Type 0
-Obeys rs e m = (r : Region) → r ∈ rs → m (r .name) ≡ value m e r
+Obeys rs e m = (r : Region) → r ∈ rs → m (r .name) ≡ belongs m e r
 
 -- ---- the members: as many rounds of the equations as there are regions; `member-obeys` and `member-only` in proofs/ say that they obey them, and nothing else does
 
 abbrev pub round : List Region → Event → (Name → Bool) → Name → Bool
-round rs e m n = someOf (λ (r : Region). same n (r .name) && value m e r) rs
+round rs e m n = someOf (λ (r : Region). same n (r .name) && belongs m e r) rs
 
 abbrev pub rounds : ℕ → List Region → Event → Name → Bool
 rounds zero rs e n = false

@@ -21,13 +21,13 @@ use Rattle.gates.specs.Rules.{noRefusal}
 use Rattle.gates.specs.Refusal.{lineRefusal}
 use Rattle.gates.specs.Gate.{Name, Leaf, leaf, Region}
 use Rattle.gates.specs.Meaning.{rectLeaf, polyLeaf, ellipLeaf, quadrantOf, operandOf, parentOf}
-use Rattle.gates.specs.Regions.{regionCount, regionName, shapeIn, regionShape, stepNumber, bodyLength, bodyWordOf}
+use Rattle.gates.specs.Inner.Regions.{regionCount, regionName, lineShape, regionShape, stepNumber, bodyLength, bodyWordOf}
 use Rattle.gates.proofs.AcceptedLaws.{Accepted}
 use Rattle.gates.proofs.QuadLaws.{count-small}
 use Rattle.gates.proofs.GateLaws.{map-tab, leaf-words, line-accepted}
 use Rattle.tables.specs.Table.{nthRegion, otherName, numberOf}
 use Rattle.tables.specs.Steps.{kindNumber, shapeKind, referenceWord, bodyWords, parentWord, stepWords}
-use Rattle.writer.specs.Words.{numberWord, parentNumberWord, header, operandWord, combines, operandAt}
+use Rattle.writer.specs.Inner.Words.{numberWord, parentNumberWord, header, operandNumberWord, combines, operandAt}
 
 -- ---- numbers that are words as they are
 
@@ -52,7 +52,7 @@ module _ (rs : List Region) (x : List ℕ) where
 
 -- ---- by the kind of an accepted line
 
-kind-in : (head : List (List ℕ)) (kind : LineKind) (fs : List (List ℕ)) (q : ℕ) → isUnknown kind ≡ false → stepNumber kind ≡ kindNumber (shapeKind (shapeIn head kind fs q))
+kind-in : (head : List (List ℕ)) (kind : LineKind) (fs : List (List ℕ)) (q : ℕ) → isUnknown kind ≡ false → stepNumber kind ≡ kindNumber (shapeKind (lineShape head kind fs q))
 kind-in head Rect fs q u = refl
 kind-in head Poly fs q u = refl
 kind-in head Ellip fs q u = refl
@@ -80,7 +80,7 @@ length-in head Or fs a = omega (arith, span-high 2 63 (length fs - 3) (a .shape)
 length-in head Not fs a = omega (arith, eqb-true (length fs - 3) 1 (a .shape))
 length-in head Unknown fs a = absurd (true≢false (a .known))
 
-leaf-in : (head : List (List ℕ)) (kind : LineKind) (fs : List (List ℕ)) (q : ℕ) → isUnknown kind ≡ false → combines kind ≡ false → (l : Leaf) × (shapeIn head kind fs q ≡ leaf l)
+leaf-in : (head : List (List ℕ)) (kind : LineKind) (fs : List (List ℕ)) (q : ℕ) → isUnknown kind ≡ false → combines kind ≡ false → (l : Leaf) × (lineShape head kind fs q ≡ leaf l)
 leaf-in head Rect fs q u c = (rectLeaf head fs, refl)
 leaf-in head Poly fs q u c = (polyLeaf head fs, refl)
 leaf-in head Ellip fs q u c = (ellipLeaf head fs, refl)
@@ -94,7 +94,7 @@ abbrev reference : List Region → List (List ℕ) → ℕ → ℤ
 reference rs fs j = referenceWord rs (operandOf (fieldAt fs (3 + j)))
 
 operands-in : (rs : List Region) (head : List (List ℕ)) (kind : LineKind) (fs : List (List ℕ)) (q : ℕ) → Accepted head kind fs → combines kind ≡ true
-    → bodyWords rs (shapeIn head kind fs q) ≡ tab (reference rs fs) (cond (isQuad kind) (3 * dividerCount fs) (length fs - 3))
+    → bodyWords rs (lineShape head kind fs q) ≡ tab (reference rs fs) (cond (isQuad kind) (3 * dividerCount fs) (length fs - 3))
 operands-in rs head Rect fs q a c = absurd (true≢false (sym c))
 operands-in rs head Poly fs q a c = absurd (true≢false (sym c))
 operands-in rs head Ellip fs q a c = absurd (true≢false (sym c))
@@ -138,7 +138,7 @@ module _ (rs : List Region) (few : length rs ≤ 64) (r : ℕ) (below : r < leng
   operands c = operands-in rs head (lineKind fs) fs q line c
 
   operand-same : (j : ℕ) → reference rs fs j ≡ operandAt rs fs j
-  unfolding operandAt operandWord
+  unfolding operandAt operandNumberWord
   operand-same j =
       let x = fieldAt fs (3 + j) in
       sym (number-kept (2 * numberOf rs (operandName x) + cond (isComplement x) 1 0) (omega (arith, number-few rs (operandName x), bit (isComplement x))))

@@ -14,10 +14,10 @@ use Rattle.text.proofs.OutputLaws.{over-length, over-more-at, over-over}
 use Rattle.text.proofs.BoundedLaws.{length-tab}
 use Rattle.gates.specs.Kinds.{fieldAt, lineKind, isQuad}
 use Rattle.gates.specs.Quads.{dividerCount}
-use Rattle.gates.specs.Regions.{bodyLength}
+use Rattle.gates.specs.Inner.Regions.{bodyLength}
 use Rattle.gates.proofs.QuadLaws.{count-small}
 use Rattle.gatelines.proofs.LineLaws.{fields-length}
-use Rattle.writer.specs.Words.{numberWord, header}
+use Rattle.writer.specs.Inner.Words.{numberWord, header}
 
 -- ---- numbers
 

@@ -1,2 +1,2 @@
 -- The words that the step writer writes.
-pub mod Words
+pub mod Inner

@@ -7,8 +7,8 @@ ghost use Rattle.text.specs.Bounded.{tab};
 ghost use Rattle.text.specs.Lines.{fields};
 ghost use Rattle.text.specs.Output.{over};
 ghost use Rattle.gates.specs.Kinds.{lineKind};
-ghost use Rattle.gates.specs.Regions.{stepNumber, bodyLength, bodyWordOf};
-ghost use Rattle.writer.specs.Words.{numberWord, parentNumberWord, header, operandWord, combines as combinesOf};
+ghost use Rattle.gates.specs.Inner.Regions.{stepNumber, bodyLength, bodyWordOf};
+ghost use Rattle.writer.specs.Inner.Words.{numberWord, parentNumberWord, header, operandNumberWord, combines as combinesOf};
 use gatefields::fields::kind_of;
 use gatelines::regions::body_length;
 use gatelines::regions::step_number;
@@ -57,7 +57,7 @@ fn parent_word(parent: usize) -> i32
 
 // The word of an operand.
 fn operand_word(region: usize, complement: bool) -> i32
-    ensures { λ r. ⌜ r ≡ operandWord region complement ⌝ }
+    ensures { λ r. ⌜ r ≡ operandNumberWord region complement ⌝ }
 {
     let twice = 2 * lesser(region, 65535);
     if complement {
@@ -108,7 +108,7 @@ pub fn put_leaf(rest: &mut [i32], head: &[u8], line: &[u8], q: usize) -> usize
 
 // Puts the word of an operand at index i, where there is one.
 pub fn put_operand(rest: &mut [i32], i: usize, region: usize, complement: bool)
-    ensures { λ _. ⌜ now (rest .exit) ≡ set (now (rest .entry)) i (operandWord region complement) ⌝ }
+    ensures { λ _. ⌜ now (rest .exit) ≡ set (now (rest .entry)) i (operandNumberWord region complement) ⌝ }
 {
     put_word(rest, i, operand_word(region, complement));
 }

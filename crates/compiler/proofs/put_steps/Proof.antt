@@ -2,7 +2,7 @@
 use Prim.Native.Nat.{_-_, _<_, _≤_}
 use Rattle.compiler.proofs.StepsLaws.{Filling, filling-none, filling-end, filling-stuck, filling-more, next-is}
 use Rattle.gates.specs.Gate.{regions}
-use Rattle.resolve.specs.Reading.{gatesAt}
+use Rattle.resolve.specs.Inner.Reading.{gatesAt}
 use Rattle.text.proofs.OutputLaws.{over-length}
 use borrow.Author.Needs.{needs}
 use lib.ListN.{length}

@@ -1,12 +1,12 @@
 use mir.Syntax.{w32}
 use mir.ValLaws.{toZ-ofZ}
-use Rattle.gates.specs.Rules.{rises}
+use Rattle.gates.specs.Rules.{uncrossed}
 use borrow.Author.Needs.{needs}
 use Rattle.gaterules.proofs.rises.Statement.{statement}
 use Rattle.gaterules.proofs.rises.Tie as tie
 
 returns : tie.Need-returns
-unfolding rises
+unfolding uncrossed
 returns c = rw (toZ-ofZ w32 _ (record { sfits = c .before .value-of .ok }), toZ-ofZ w32 _ (record { sfits = c .value-of2 .ok }), c .value-of2 .ensures, c .before .value-of .ensures, c .before .before .is-number2 .ensures, c .before .before .before .is-number .ensures)
 
 pub rises-spec : {M : Type 1} → statement M

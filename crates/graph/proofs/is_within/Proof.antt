@@ -1,11 +1,11 @@
 -- `is_within`.
 use mathlib.Core.Path.{refl}
-use Rattle.graph.specs.Rows.{within}
+use Rattle.graph.specs.Inner.Rows.{isSubset}
 use Rattle.graph.proofs.is_within.Statement.{statement}
 use Rattle.graph.proofs.is_within.Tie as tie
 
 returns : tie.Need-returns
-unfolding within
+unfolding isSubset
 returns c = refl
 
 pub is-within-spec : {M : Type 1} → statement M

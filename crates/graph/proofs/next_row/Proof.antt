@@ -1,7 +1,7 @@
 -- `next_row`: the first that is not held is the first from r on.
 use borrow.Author.Needs.{needs}
 use Rattle.graph.proofs.RowLaws.{held-not, held-still}
-use Rattle.graph.specs.Rows.{held}
+use Rattle.graph.specs.Inner.Rows.{held}
 use Rattle.plans.proofs.IndexLaws.{first-more, first-stop, first-end}
 use Rattle.plans.specs.Indices.{firstBad}
 use native.Mathlib.Nat.{sub-zero}

@@ -1,7 +1,7 @@
 -- `round`: rows below i are the new ones, those from i on the old.
 use borrow.Author.Needs.{needs}
 use Rattle.graph.proofs.RowLaws.{row-put, all-written}
-use Rattle.graph.specs.Rows.{joined}
+use Rattle.graph.specs.Inner.Rows.{joined}
 use Rattle.text.specs.Output.{over}
 use Rattle.text.specs.Bounded.{tab}
 use lib.ListN.{length}

@@ -1,6 +1,7 @@
 -- `all_different`.
 use Rattle.heads.proofs.HeadLaws.{different-all, different-not}
-use Rattle.text.specs.Lines.{fields, findField}
+use Rattle.text.specs.Lines.{fields}
+use Rattle.text.specs.Inner.Places.{findField}
 use borrow.Author.Count.{below-more}
 use borrow.Author.Needs.{needs}
 use lib.ListN.{getD}

@@ -1,6 +1,6 @@
 -- `find_quadrant`.
 use Rattle.linenames.proofs.SearchLaws.{quadrant-here, quadrant-other}
-use Rattle.linenames.specs.LineNames.{otherQuadrant, quadrantNamed}
+use Rattle.linenames.specs.Inner.LineNames.{otherQuadrant, quadrantNamed}
 use Rattle.text.specs.Lines.{fields}
 use Rattle.plans.proofs.IndexLaws.{first-more, first-stop, first-end}
 use Rattle.plans.specs.Indices.{firstBad}

@@ -1,6 +1,6 @@
 -- `find_region`.
 use Rattle.linenames.proofs.SearchLaws.{region-here, region-other}
-use Rattle.linenames.specs.LineNames.{otherRegion, regionNamed}
+use Rattle.linenames.specs.Inner.LineNames.{otherRegion, regionNamed}
 use Rattle.text.specs.Lines.{fields}
 use Rattle.plans.proofs.IndexLaws.{first-more, first-stop, first-end}
 use Rattle.plans.specs.Indices.{firstBad}

@@ -1,5 +1,5 @@
 -- `gives_name`.
-use Rattle.linenames.specs.LineNames.{givesName}
+use Rattle.linenames.specs.Inner.LineNames.{givesName}
 use borrow.Author.Needs.{needs}
 use Rattle.linenames.proofs.gives_name.Statement.{statement}
 use Rattle.linenames.proofs.gives_name.Tie as tie

@@ -1,5 +1,5 @@
 -- `has_reference`.
-use Rattle.linenames.specs.LineNames.{hasReference}
+use Rattle.linenames.specs.Inner.LineNames.{hasReference}
 use borrow.Author.Needs.{needs}
 use Rattle.linenames.proofs.has_reference.Statement.{statement}
 use Rattle.linenames.proofs.has_reference.Tie as tie

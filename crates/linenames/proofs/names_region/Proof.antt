@@ -1,5 +1,5 @@
 -- `names_region`.
-use Rattle.linenames.specs.LineNames.{namesRegion}
+use Rattle.linenames.specs.Inner.LineNames.{namesRegion}
 use borrow.Author.Needs.{needs}
 use Rattle.linenames.proofs.names_region.Statement.{statement}
 use Rattle.linenames.proofs.names_region.Tie as tie

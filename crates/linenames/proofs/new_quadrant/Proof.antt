@@ -1,5 +1,5 @@
 -- `new_quadrant`.
-use Rattle.linenames.specs.LineNames.{newQuadrant}
+use Rattle.linenames.specs.Inner.LineNames.{newQuadrant}
 use borrow.Author.Needs.{needs}
 use Rattle.linenames.proofs.new_quadrant.Statement.{statement}
 use Rattle.linenames.proofs.new_quadrant.Tie as tie

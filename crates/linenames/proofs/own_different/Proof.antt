@@ -1,5 +1,5 @@
 -- `own_different`.
-use Rattle.linenames.specs.LineNames.{newQuadrant, quadCount, ownDifferent}
+use Rattle.linenames.specs.Inner.LineNames.{newQuadrant, quadCount, ownDifferent}
 use Rattle.text.specs.Lines.{fields}
 use Rattle.plans.proofs.IndexLaws.{all-more, all-stop}
 use Rattle.plans.specs.Indices.{all}

@@ -1,5 +1,5 @@
 -- `quad_count`.
-use Rattle.linenames.specs.LineNames.{quadCount}
+use Rattle.linenames.specs.Inner.LineNames.{quadCount}
 use borrow.Author.Needs.{needs}
 use Rattle.linenames.proofs.quad_count.Statement.{statement}
 use Rattle.linenames.proofs.quad_count.Tie as tie

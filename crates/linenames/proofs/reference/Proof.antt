@@ -1,5 +1,5 @@
 -- `reference`.
-use Rattle.linenames.specs.LineNames.{referenceAt}
+use Rattle.linenames.specs.Inner.LineNames.{referenceAt}
 use borrow.Author.Tests.{eq-eqb, ne-eqb}
 use borrow.Author.Needs.{needs}
 use Rattle.linenames.proofs.reference.Statement.{statement}

@@ -1,5 +1,5 @@
 -- `reference_end`.
-use Rattle.linenames.specs.LineNames.{referenceEnd}
+use Rattle.linenames.specs.Inner.LineNames.{referenceEnd}
 use borrow.Author.Needs.{needs}
 use Rattle.linenames.proofs.reference_end.Statement.{statement}
 use Rattle.linenames.proofs.reference_end.Tie as tie

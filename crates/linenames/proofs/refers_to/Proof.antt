@@ -1,6 +1,6 @@
 -- `refers_to`.
 use Rattle.linenames.proofs.SearchLaws.{passes-not, passes-still, refers-found, refers-none}
-use Rattle.linenames.specs.LineNames.{passesBy}
+use Rattle.linenames.specs.Inner.LineNames.{passesBy}
 use Rattle.text.specs.Lines.{fields}
 use Rattle.plans.proofs.IndexLaws.{first-more, first-stop, first-end}
 use Rattle.plans.specs.Indices.{firstBad}

@@ -1,6 +1,6 @@
 -- `shares_name`.
 use Rattle.linenames.proofs.SearchLaws.{shared-is, shared-gate, shared-rest}
-use Rattle.linenames.specs.LineNames.{sharesQuadrant, quadCount}
+use Rattle.linenames.specs.Inner.LineNames.{sharesQuadrant, quadCount}
 use Rattle.text.specs.Lines.{fields}
 use Rattle.plans.proofs.IndexLaws.{any-more, any-stop}
 use Rattle.plans.specs.Indices.{any}

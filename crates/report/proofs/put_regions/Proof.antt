@@ -6,7 +6,7 @@ use borrow.Author.Needs.{needs}
 use lib.ListN.{length}
 use Rattle.text.proofs.OutputLaws.{over-length}
 use Rattle.gates.specs.Gate.{regions}
-use Rattle.resolve.specs.Reading.{gatesAt}
+use Rattle.resolve.specs.Inner.Reading.{gatesAt}
 use Rattle.events.proofs.PrintingLaws.{Written}
 use Rattle.report.specs.Report.{regionLines}
 use Rattle.report.proofs.ReportLaws.{lines-none, lines-next, lines-short}
@@ -52,7 +52,7 @@ returns c =
     let rs = regions (gatesAt (a .text .now) (a .starts .at) (a .n)) in
     let z : l .loop .r ≡ a .m = omega arith in
     let w = rw z at (l .loop .inv .1) in
-    (w .0, w .1, omega (arith, e .pre .0, lines-short rs (a .tally .counts) (a .out .now) (a .m) (l .loop .at) w (a .m) (e .pre .2) (omega arith)))
+    (w, omega (arith, e .pre .0, lines-short rs (a .tally .counts) (a .out .now) (a .m) (l .loop .at) w (a .m) (e .pre .2) (omega arith)))
 
 pub put-regions-spec : {M : Type 1} → statement M
 put-regions-spec =

@@ -30,7 +30,7 @@ add-b c =
     let w = c .before .before in
     let u = w .before .before .before .before in
     let t = taken-short _ (w .put-taken .ensures .0) in
-    omega (arith, u .put-regions .ensures .2, t)
+    omega (arith, u .put-regions .ensures .1, t)
 
 add-result : tie.Need-add-result
 add-result c =
@@ -39,7 +39,7 @@ add-result c =
     let u = w .before .before .before .before in
     let t = taken-short _ (w .put-taken .ensures .0) in
     let s = spoilt-short _ (v .put-spoilt .ensures .0) in
-    omega (arith, u .put-regions .ensures .2, t, s)
+    omega (arith, u .put-regions .ensures .1, t, s)
 
 returns : tie.Need-returns
 returns c =
@@ -52,7 +52,7 @@ returns c =
     let a = number-accepted 4096 t (e .pre .0) in
     let g = gates-are 4096 t a (s .starts-of .result .at) (s .starts-of .ensures .1) (s .starts-of .result .lines) (s .starts-of .ensures .0) in
     let r = rw g at (u .put-regions .ensures) in
-    tally-written (regions (gates t)) (e .args .tally) (e .args .out .now) (e .args .m) (e .pre .1) (r .0, r .1) (w .put-taken .ensures) (v .put-spoilt .ensures)
+    tally-written (regions (gates t)) (e .args .tally) (e .args .out .now) (e .args .m) (e .pre .1) (r .0) (w .put-taken .ensures) (v .put-spoilt .ensures)
 
 pub put-tally-spec : {M : Type 1} → statement M
 put-tally-spec =

@@ -1,7 +1,7 @@
 -- `first_crowded`.
 use borrow.Author.Needs.{needs}
 use Rattle.resolve.proofs.CrowdLaws.{total-none, total-next, crowded-here, crowded-not}
-use Rattle.resolve.specs.Reading.{gatesAt}
+use Rattle.resolve.specs.Inner.Reading.{gatesAt}
 use Rattle.tables.specs.Refusals.{uncrowded}
 use Rattle.gates.specs.Gate.{regions}
 use Rattle.plans.proofs.IndexLaws.{first-more, first-stop, first-end}

@@ -1,7 +1,7 @@
 -- `first_dead`.
 use borrow.Author.Tests.{not-true, not-false}
 use borrow.Author.Needs.{needs}
-use Rattle.resolve.specs.Reading.{gatesAt}
+use Rattle.resolve.specs.Inner.Reading.{gatesAt}
 use Rattle.tables.specs.Refusals.{living}
 use Rattle.plans.proofs.IndexLaws.{first-more, first-stop, first-end}
 use Rattle.plans.specs.Indices.{firstBad}

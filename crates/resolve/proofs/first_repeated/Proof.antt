@@ -1,7 +1,7 @@
 -- `first_repeated`.
 use borrow.Author.Needs.{needs}
 use Rattle.resolve.proofs.RepeatLaws.{unrepeated-is, given-next, given-none}
-use Rattle.resolve.specs.Reading.{gatesAt}
+use Rattle.resolve.specs.Inner.Reading.{gatesAt}
 use Rattle.tables.specs.Refusals.{unrepeated}
 use Rattle.tables.specs.Table.{given, different}
 use Rattle.plans.proofs.IndexLaws.{first-more, first-stop, first-end}

@@ -1,7 +1,7 @@
 -- `gate_row`.
 use borrow.Author.Needs.{needs}
 use Rattle.resolve.proofs.RowLaws.{Row, row-none, row-more, refers-read}
-use Rattle.resolve.specs.Reading.{refersBy}
+use Rattle.resolve.specs.Inner.Reading.{refersBy}
 use native.Mathlib.Omega.{arith}
 use Prim.Native.Nat.{_-_, _≤_}
 use mathlib.Core.Path.{_≡_, _∙_}

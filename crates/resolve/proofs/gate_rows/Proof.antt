@@ -2,8 +2,8 @@
 use borrow.Author.Needs.{needs}
 use Rattle.resolve.proofs.CircleLaws.{row-set}
 use Rattle.resolve.proofs.RowLaws.{Row}
-use Rattle.resolve.specs.Reading.{refersBy}
-use Rattle.graph.specs.Rows.{bitAt}
+use Rattle.resolve.specs.Inner.Reading.{refersBy}
+use Rattle.graph.specs.Inner.Rows.{bitAt}
 use borrow.Author.Tests.{lt-ltb}
 use lib.ListN.{length, getD}
 use native.Mathlib.Omega.{arith}

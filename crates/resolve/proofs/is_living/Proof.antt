@@ -2,8 +2,8 @@
 use borrow.Author.Needs.{needs}
 use borrow.Author.Count.{below-more}
 use Rattle.resolve.proofs.LivingLaws.{dead-here, living-all, dead-has, dead-region, live-region, end-read}
-use Rattle.resolve.specs.Reading.{fieldsAt, gatesAt}
-use Rattle.linenames.specs.LineNames.{hasReference, referenceAt}
+use Rattle.resolve.specs.Inner.Reading.{fieldsAt, gatesAt}
+use Rattle.linenames.specs.Inner.LineNames.{hasReference, referenceAt}
 use Rattle.tables.specs.Refusals.{isRegion}
 use Rattle.gates.specs.Gate.{regions}
 use lib.ListN.{length}

@@ -1,5 +1,5 @@
 -- `line_at`.
-use Rattle.resolve.specs.Reading.{lineAt}
+use Rattle.resolve.specs.Inner.Reading.{lineAt}
 use borrow.Author.Needs.{needs}
 use Rattle.resolve.proofs.line_at.Statement.{statement}
 use Rattle.resolve.proofs.line_at.Tie as tie

@@ -1,7 +1,7 @@
 -- `number_of`.
 use borrow.Author.Needs.{needs}
 use Rattle.resolve.proofs.NumberLaws.{Numbering, numbering-first, numbering-found, numbering-next, numbering-end, numbering-crowded}
-use Rattle.resolve.specs.Reading.{gatesAt}
+use Rattle.resolve.specs.Inner.Reading.{gatesAt}
 use Rattle.gates.specs.Gate.{regions}
 use lib.ListN.{length}
 use native.Mathlib.Omega.{arith}

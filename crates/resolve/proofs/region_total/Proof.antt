@@ -1,7 +1,7 @@
 -- `region_total`.
 use borrow.Author.Needs.{needs}
 use Rattle.resolve.proofs.CrowdLaws.{total-none, total-next, too-many}
-use Rattle.resolve.specs.Reading.{gatesAt}
+use Rattle.resolve.specs.Inner.Reading.{gatesAt}
 use Rattle.gates.specs.Gate.{regions}
 use lib.ListN.{length}
 use native.Mathlib.Omega.{arith}

@@ -1,6 +1,6 @@
 -- `repeats`.
 use Rattle.resolve.proofs.RepeatLaws.{repeats-own, repeats-rest, own-read, shares-read}
-use Rattle.resolve.specs.Reading.{sharesAt}
+use Rattle.resolve.specs.Inner.Reading.{sharesAt}
 use Rattle.plans.proofs.IndexLaws.{any-more, any-stop}
 use Rattle.plans.specs.Indices.{any}
 use borrow.Author.Tests.{not-true, not-false}

@@ -11,9 +11,9 @@ use Rattle.text.specs.Output.{over}
 use Rattle.text.proofs.OutputLaws.{over-length}
 use Rattle.gates.specs.Gate.{regions}
 use Rattle.gates.specs.Kinds.{lineKind}
-use Rattle.gates.specs.Regions.{stepNumber, bodyLength}
-use Rattle.resolve.specs.Reading.{gatesAt}
-use Rattle.writer.specs.Words.{header, operandAt}
+use Rattle.gates.specs.Inner.Regions.{stepNumber, bodyLength}
+use Rattle.resolve.specs.Inner.Reading.{gatesAt}
+use Rattle.writer.specs.Inner.Words.{header, operandAt}
 use Rattle.writer.proofs.WordLaws.{body-length-le, step-begun, step-again}
 use Rattle.stepwriter.proofs.StepLaws.{operand-more}
 use Rattle.stepwriter.proofs.put_combination_step.Statement.{statement}

@@ -2,8 +2,8 @@
 use Prim.Native.Nat.{_-_, _<_, _≤_}
 use Rattle.gates.specs.Gate.{regions}
 use Rattle.tableregions.proofs.ReferenceLaws.{Gathered, gathered-none, row-next, row-done}
-use Rattle.tableregions.specs.Settled.{Settled}
-use Rattle.resolve.specs.Reading.{gatesAt}
+use Rattle.tableregions.specs.Inner.Settled.{Settled}
+use Rattle.resolve.specs.Inner.Reading.{gatesAt}
 use Rattle.tables.specs.Head.{dimensions}
 use Rattle.tables.specs.Table.{numberOf}
 use Rattle.text.specs.Lines.{fields}

@@ -1,6 +1,6 @@
 -- `region_rows`.
 use Prim.Native.Nat.{ℕ, _-_, _<_, _≤_}
-use Rattle.graph.specs.Rows.{bitAt}
+use Rattle.graph.specs.Inner.Rows.{bitAt}
 use Rattle.tableregions.proofs.ReferenceLaws.{RowOf}
 use Rattle.resolve.proofs.CircleLaws.{row-set}
 use borrow.Author.Needs.{needs}

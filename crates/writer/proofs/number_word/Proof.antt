@@ -2,7 +2,7 @@ use native.Mathlib.Omega.{arith}
 use mir.Syntax.{w32}
 use mir.ValLaws.{toZ-pos}
 use borrow.Author.Needs.{needs}
-use Rattle.writer.specs.Words.{numberWord}
+use Rattle.writer.specs.Inner.Words.{numberWord}
 use Rattle.writer.proofs.number_word.Statement.{statement}
 use Rattle.writer.proofs.number_word.Tie as tie
 

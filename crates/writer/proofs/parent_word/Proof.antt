@@ -3,7 +3,7 @@ use borrow.Author.Needs.{needs}
 use borrow.Author.Tests.{lt-ltb, le-ltb}
 use mir.Syntax.{w32}
 use mir.ValLaws.{toZ-pos}
-use Rattle.writer.specs.Words.{parentNumberWord}
+use Rattle.writer.specs.Inner.Words.{parentNumberWord}
 use Rattle.writer.proofs.parent_word.Statement.{statement}
 use Rattle.writer.proofs.parent_word.Tie as tie
 

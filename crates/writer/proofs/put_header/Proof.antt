@@ -4,7 +4,7 @@ use native.Mathlib.Omega.{arith}
 use mir.Syntax.{w32}
 use mir.ValLaws.{toZ-pos, toZ-ofZ}
 use borrow.Author.Needs.{needs}
-use Rattle.writer.specs.Words.{header}
+use Rattle.writer.specs.Inner.Words.{header}
 use Rattle.writer.proofs.WordLaws.{four-words}
 use Rattle.writer.proofs.put_header.Statement.{statement}
 use Rattle.writer.proofs.put_header.Tie as tie

@@ -11,7 +11,7 @@ use Rattle.text.specs.Lines.{fields}
 use Rattle.text.specs.Output.{over}
 use Rattle.text.proofs.OutputLaws.{over-length}
 use Rattle.text.proofs.BoundedLaws.{tab-more}
-use Rattle.gates.specs.Regions.{bodyLength, bodyWordOf}
+use Rattle.gates.specs.Inner.Regions.{bodyLength, bodyWordOf}
 use Rattle.writer.proofs.put_leaf.Statement.{statement}
 use Rattle.writer.proofs.put_leaf.Tie as tie
 

@@ -1,4 +1,4 @@
-use Rattle.gates.specs.Regions.{bodyLength}
+use Rattle.gates.specs.Inner.Regions.{bodyLength}
 use borrow.Author.Needs.{needs}
 use Rattle.gatelines.proofs.regions.body_length.Statement.{statement}
 use Rattle.gatelines.proofs.regions.body_length.Tie as tie

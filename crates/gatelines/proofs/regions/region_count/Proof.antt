@@ -1,4 +1,4 @@
-use Rattle.gates.specs.Regions.{regionCount}
+use Rattle.gates.specs.Inner.Regions.{regionCount}
 use borrow.Author.Needs.{needs}
 use Rattle.gatelines.proofs.regions.region_count.Statement.{statement}
 use Rattle.gatelines.proofs.regions.region_count.Tie as tie

@@ -4,7 +4,7 @@ use Prim.Native.Nat.{_<_}
 use borrow.Author.Tests.{lt-ltb, le-ltb}
 use Rattle.text.specs.Lines.{fields}
 use Rattle.gates.specs.Quads.{quadrantCount}
-use Rattle.gates.specs.Regions.{regionName}
+use Rattle.gates.specs.Inner.Regions.{regionName}
 use Rattle.gatelines.proofs.LineLaws.{cond-lt, quad-known, region-quad}
 use borrow.Author.Needs.{needs}
 use Rattle.gatelines.proofs.regions.region_name.Statement.{statement}

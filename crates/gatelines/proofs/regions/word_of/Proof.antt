@@ -4,7 +4,7 @@ use native.Mathlib.Omega.{arith}
 use mathlib.Core.Bool.{true, false}
 use borrow.Author.Tests.{lt-ltb, le-ltb, lt-leb, le-leb}
 use Rattle.text.specs.Lines.{fields}
-use Rattle.gates.specs.Regions.{bodyWordOf}
+use Rattle.gates.specs.Inner.Regions.{bodyWordOf}
 use Rattle.gatelines.proofs.LineLaws.{quad-known, region-quad, length-quad, length-other}
 use borrow.Author.Needs.{needs}
 use Rattle.gatelines.proofs.regions.word_of.Statement.{statement}

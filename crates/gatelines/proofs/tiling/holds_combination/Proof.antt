@@ -5,12 +5,12 @@ use mathlib.Core.Path.{_≡_, refl}
 use Prim.Native.Nat.{_-_, _≤_}
 use Rattle.text.specs.Lines.{fields}
 use Rattle.plans.specs.Indices.{all}
-use Rattle.gates.specs.Tiling.{part, holdsInterval, holdsCombination}
+use Rattle.gates.specs.Tiling.{intervalIn, holdsInterval, holdsCombination}
 use Rattle.gatelines.proofs.tiling.holds_combination.Statement.{statement}
 use Rattle.gatelines.proofs.tiling.holds_combination.Tie as tie
 
 abbrev Inv-loop : tie.InvT-loop
-Inv-loop line c q d ok₀ t₀ ok t = (t ≤ d) × (ok ≡ all (λ i. holdsInterval (fields line) q i (part c i)) t)
+Inv-loop line c q d ok₀ t₀ ok t = (t ≤ d) × (ok ≡ all (λ i. holdsInterval (fields line) q i (intervalIn c i)) t)
 
 abbrev μ-loop : tie.MeasureT-loop
 μ-loop line c q d ok₀ t₀ ok t = d - t

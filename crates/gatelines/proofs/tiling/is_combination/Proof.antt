@@ -7,12 +7,12 @@ use lib.Dec.{leb}
 use Rattle.text.specs.Lines.{fields}
 use Rattle.plans.specs.Indices.{all}
 use Rattle.gates.specs.Quads.{valueCount}
-use Rattle.gates.specs.Tiling.{part, isCombination}
+use Rattle.gates.specs.Tiling.{intervalIn, isCombination}
 use Rattle.gatelines.proofs.tiling.is_combination.Statement.{statement}
 use Rattle.gatelines.proofs.tiling.is_combination.Tie as tie
 
 abbrev Inv-loop : tie.InvT-loop
-Inv-loop line c d ok₀ t₀ ok t = (t ≤ d) × (ok ≡ all (λ i. leb (part c i) (valueCount (fields line) i)) t)
+Inv-loop line c d ok₀ t₀ ok t = (t ≤ d) × (ok ≡ all (λ i. leb (intervalIn c i) (valueCount (fields line) i)) t)
 
 abbrev μ-loop : tie.MeasureT-loop
 μ-loop line c d ok₀ t₀ ok t = d - t

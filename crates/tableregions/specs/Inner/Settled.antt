@@ -9,7 +9,7 @@ use Rattle.gates.specs.Refusal.{lineRefusal}
 use Rattle.gates.specs.Gate.{regions}
 use Rattle.tables.specs.Head.{dimensions}
 use Rattle.tables.specs.Refusals.{living}
-use Rattle.resolve.specs.Reading.{fieldsAt, gatesAt}
+use Rattle.resolve.specs.Inner.Reading.{fieldsAt, gatesAt}
 
 -- of n gates
 pub record Settled (text starts : List ℕ) (n : ℕ) : Type 0 where

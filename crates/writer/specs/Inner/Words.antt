@@ -25,8 +25,8 @@ unfoldable pub header : ℕ → ℕ → ℕ → ℕ → List ℤ
 header kind region parent length = pos kind ∷ numberWord region ∷ parentNumberWord parent ∷ numberWord length ∷ []
 
 -- 2 × region, plus 1 for `!`
-unfoldable pub operandWord : ℕ → Bool → ℤ
-operandWord region complement = numberWord (2 * region + cond complement 1 0)
+unfoldable pub operandNumberWord : ℕ → Bool → ℤ
+operandNumberWord region complement = numberWord (2 * region + cond complement 1 0)
 
 -- ---- by the regions of a table
 
@@ -43,4 +43,4 @@ combines Unknown = false
 
 -- word j of the body of a combination
 unfoldable pub operandAt : List Region → List (List ℕ) → ℕ → ℤ
-operandAt rs fs j = operandWord (numberOf rs (operandName (fieldAt fs (3 + j)))) (isComplement (fieldAt fs (3 + j)))
+operandAt rs fs j = operandNumberWord (numberOf rs (operandName (fieldAt fs (3 + j)))) (isComplement (fieldAt fs (3 + j)))

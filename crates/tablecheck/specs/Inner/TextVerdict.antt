@@ -8,7 +8,7 @@ use Rattle.plans.specs.Refusals.{Verdict, refused}
 use Rattle.text.specs.Lines.{endsInLF}
 use Rattle.tables.specs.Head.{dimensions, headGood, gateLines, gates}
 use Rattle.tables.specs.Refusals.{unlessLine, refusalAt, lineGood}
-use Rattle.resolve.specs.NamedVerdict.{after, namesVerdict}
+use Rattle.resolve.specs.Inner.NamedVerdict.{after, namesVerdict}
 use Rattle.tablecheck.specs.declared.Answer.{Answer}
 use Rattle.tablecheck.specs.declared.Answer.the-variants.{Long, Unended, BadHead, BadLine, Names}
 

@@ -19,12 +19,12 @@ unfoldable pub joined : List ℕ → ℕ → ℕ → ℕ
 joined rows s i = cond (hasBit (getD rows i 0) s) (bitOr (getD rows i 0) (getD rows s 0)) (getD rows i 0)
 
 -- each bit of a is one of b
-unfoldable pub within : ℕ → ℕ → Bool
-within a b = eqb (bitOr a b) b
+unfoldable pub isSubset : ℕ → ℕ → Bool
+isSubset a b = eqb (bitOr a b) b
 
 -- row r is in the set, or has a bit that is not
 unfoldable pub held : List ℕ → ℕ → ℕ → Bool
-held rows set r = not (not (hasBit set r) && within (getD rows r 0) set)
+held rows set r = not (not (hasBit set r) && isSubset (getD rows r 0) set)
 
 -- row r holds the numbers of the regions that region r refers to
 abbrev pub Referring : List Region → List ℕ → Type 0

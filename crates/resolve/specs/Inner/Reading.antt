@@ -5,10 +5,11 @@ use Prim.Native.Nat.{ℕ, _+_}
 use lib.ListN.{getD}
 use Rattle.plans.specs.Indices.{any}
 use Rattle.text.specs.Bounded.{tab}
-use Rattle.text.specs.Lines.{fields, lineFrom}
+use Rattle.text.specs.Lines.{fields}
+use Rattle.text.specs.Inner.Places.{lineFrom}
 use Rattle.gates.specs.Gate.{Gate}
 use Rattle.tables.specs.Head.{dimensions, lineGate}
-use Rattle.linenames.specs.LineNames.{ownDifferent, sharesName, refersLine}
+use Rattle.linenames.specs.Inner.LineNames.{ownDifferent, sharesName, refersLine}
 
 -- gate line i, whose place stands behind that of the head
 unfoldable pub lineAt : List ℕ → List ℕ → ℕ → List ℕ

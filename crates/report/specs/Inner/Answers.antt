@@ -8,7 +8,7 @@ use lib.ListN.{length}
 use Rattle.gates.specs.Gate.{regions}
 use Rattle.tables.specs.Head.{gates}
 use Rattle.tables.specs.Refusals.{tableVerdict}
-use Rattle.compiler.specs.Answers.{refusal}
+use Rattle.compiler.specs.Answers.{tableRefusal}
 use Rattle.compiler.specs.declared.Compiled.{Compiled}
 use Rattle.compiler.specs.declared.Compiled.the-variants.{Written, Refused}
 use Rattle.events.specs.Printing.{refusedLine}
@@ -16,10 +16,10 @@ use Rattle.events.specs.declared.listing.Answer.{Answer}
 use Rattle.events.specs.declared.listing.Answer.the-variants.{Values, Ragged, Short}
 
 -- how many values were read
-abbrev pub valueCount : Answer → ℕ
-valueCount (Values n) = n
-valueCount (Ragged line) = 0
-valueCount Short = 0
+abbrev pub readCount : Answer → ℕ
+readCount (Values n) = n
+readCount (Ragged line) = 0
+readCount Short = 0
 
 -- 23 at a ragged line, else the lines of the count
 abbrev pub answeredLines : Answer → List ℕ → List ℕ
@@ -30,4 +30,4 @@ answeredLines Short lines = lines
 -- an answer of compiling this table with room for 4,096 words
 abbrev pub Compiles : List ℕ → Compiled → Type 0
 Compiles table (Written words m) = (tableVerdict 4096 table .number ≡ 0) × (m ≡ length (regions (gates table)))
-Compiles table (Refused r) = (tableVerdict 4096 table ≡ refusal r) × (eqb (refusal r .number) 0 ≡ false)
+Compiles table (Refused r) = (tableVerdict 4096 table ≡ tableRefusal r) × (eqb (tableRefusal r .number) 0 ≡ false)

@@ -8,7 +8,7 @@ use Rattle.plans.specs.Indices.{all, any, firstBad}
 use Rattle.text.specs.Bytes.{same}
 use Rattle.gates.specs.Kinds.{fieldAt, lineKind, isQuad, isNone, operandName}
 use Rattle.gates.specs.Quads.{quadrantCount, quadrantAt}
-use Rattle.gates.specs.Regions.{regionCount, regionName}
+use Rattle.gates.specs.Inner.Regions.{regionCount, regionName}
 use Rattle.gates.specs.declared.LineKind.{LineKind}
 use Rattle.gates.specs.declared.LineKind.the-variants.{Rect, Poly, Ellip, Quad, And, Or, Not, Unknown}
 

@@ -1,0 +1,4 @@
+-- Definitions that only inner contracts and proofs cite.
+pub mod Steps
+pub mod Ranges
+pub mod Raising

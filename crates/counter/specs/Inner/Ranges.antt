@@ -1,0 +1,36 @@
+-- The ranges of what the shapes' code is handed: values, vertices, an ellipse's fields.
+use mathlib.Core.Path.{_≡_}
+use mathlib.Core.List.{List}
+use Prim.Native.Nat.{ℕ, _≤_, _<_, _%_}
+use lib.IntN.{ℤ, pos}
+use lib.ListN.{length, getD}
+use lib.Signed.{mag, _≤ℤ_}
+use Rattle.integers.specs.Inner.Bounds.{In}
+
+-- from -65536 to 65535: `mag z` is n for n and for -(n + 1)
+abbrev pub OnScale : ℤ → Type 0
+OnScale z = mag z < 65536
+
+-- three vertices or more, each on the scale
+pub record Vertices (v : List ℤ) : Type 0 where
+  pub three : 6 ≤ length v
+  pub even : length v % 2 ≡ 0
+  pub on-scale : (k : ℕ) → OnScale (getD v k (pos 0))
+
+pub record Coordinates (x0 y0 x1 y1 x y : ℤ) : Type 0 where
+  pub x0-on : OnScale x0
+  pub y0-on : OnScale y0
+  pub x1-on : OnScale x1
+  pub y1-on : OnScale y1
+  pub x-on : OnScale x
+  pub y-on : OnScale y
+
+-- an ellipse's fields in their ranges
+pub record Fields (m1 m2 c11 c12 c22 d2 : ℤ) : Type 0 where
+  pub m1-on : OnScale m1
+  pub m2-on : OnScale m2
+  pub c11-in : In 16777216 c11
+  pub c12-in : In 16777216 c12
+  pub c22-in : In 16777216 c22
+  pub d2-from : pos 1 ≤ℤ d2
+  pub d2-to : d2 ≤ℤ pos 4096
