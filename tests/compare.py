@@ -18,7 +18,8 @@ What is compared:
 * Each of N generated questions goes to the executable at --plans, and its answer must
   be the reference's, word for word; --questions picks those of some words only.
 
-The exit status is 0 when nothing differs; the last line is "N passed, M failed".
+The last line is "N passed, M failed"; the exit status is 0 when nothing differs and
+something was compared.
 
 
 The questions to --plans
@@ -375,8 +376,10 @@ def main():
         comparison = Comparison(options)
         comparison.run()
         passed, failed = comparison.passed, comparison.failed
+    if not passed + failed:
+        print('nothing was compared')
     print('%d passed, %d failed' % (passed, failed))
-    sys.exit(1 if failed else 0)
+    sys.exit(1 if failed or not passed else 0)
 
 
 if __name__ == '__main__':

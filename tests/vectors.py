@@ -5,12 +5,23 @@
 
 Each event goes through gatecount alone, so that its counts tell of which regions it is a member. The numbers of a vector are those of the
 document's example; what an example has and a table has not (transformed scales, and the parents that need them) is left out. Where a number of
-an example is not whole, all are multiplied; the heading says by what. The last line is 'N passed, M failed'.
+an example is not whole, all are multiplied; the heading says by what. Where the document and the requirement differ, in outlines that enclose a place
+twice, the requirement rules, and its own marked cases stand here too.
+
+That the vectors would see a wrong program is tested too: each fault of FAULTS, planted in the reference program (tests/reference/plants.py), must give
+another answer on the vectors that are named with it. The last line is 'N passed, M failed'.
 """
 
 import argparse
+import os
 import shlex
 import subprocess
+import sys
+
+sys.path.insert(0, os.path.join(os.path.dirname(os.path.abspath(__file__)), 'reference'))
+
+import gates
+import plants
 
 # heading, table (spaces for tabs), events: values and the regions that hold them
 VECTORS = [
@@ -31,6 +42,28 @@ VECTORS = [
       'poly NonSimple - FSC-H SSC-H 50 50 150 50 50 150 150 150'],
      [('100 60', 'NonSimple'), ('100 140', 'NonSimple'), ('100 100', 'NonSimple'), ('75 75', 'NonSimple'), ('125 75', 'NonSimple'),
       ('100 50', 'NonSimple'), ('50 50', 'NonSimple'), ('150 150', 'NonSimple'), ('60 100', ''), ('140 100', ''), ('99 100', ''), ('100 49', '')]),
+
+    ('example 15 walked twice: an even number of crossings, which 5.2.1 of the document leaves out and the requirement holds',
+     ['dims FSC-H SSC-H',
+      'poly Twice - FSC-H SSC-H 0 0 400 0 400 300 0 0 400 0 400 300'],
+     [('300 100', 'Twice'), ('200 149', 'Twice'), ('200 150', 'Twice'), ('0 0', 'Twice'), ('200 151', ''), ('401 100', ''), ('100 -1', '')]),
+
+    ('a star of five corners, whose middle the outline encloses twice and its points once; between two points it is open',
+     ['dims FSC-H SSC-H',
+      'poly Star - FSC-H SSC-H 50 100 79 10 2 65 98 65 21 10'],
+     [('50 50', 'Star'), ('50 64', 'Star'), ('50 31', 'Star'), ('50 80', 'Star'), ('70 20', 'Star'), ('30 20', 'Star'), ('10 62', 'Star'), ('90 62', 'Star'),
+      ('50 65', 'Star'), ('50 30', ''), ('50 10', ''), ('20 90', ''), ('80 90', ''), ('5 30', ''), ('95 30', '')]),
+
+    ('the square of the requirement walked twice, and once for each way round, which encloses nothing but its edges',
+     ['dims X Y',
+      'poly Twice - X Y 0 0 10 0 10 10 0 10 0 0 10 0 10 10 0 10',
+      'poly Back - X Y 0 0 10 0 10 10 0 10 0 0 0 10 10 10 10 0'],
+     [('5 5', 'Twice'), ('10 5', 'Twice Back'), ('0 0', 'Twice Back'), ('11 5', ''), ('5 11', ''), ('11 0', '')]),
+
+    ('the flat triangle of the requirement',
+     ['dims X Y',
+      'poly Flat - X Y 0 0 4 0 8 0'],
+     [('4 0', 'Flat'), ('6 0', 'Flat'), ('4 1', ''), ('9 0', '')]),
 
     ('example 18, an ellipse with axes of 200 and 175',
      ['dims FSC-H SSC-H',
@@ -82,13 +115,78 @@ VECTORS = [
       'quad myQuadrantGate2 - 1 FL4-W 2 10 100 FL4Neg 0 FL4Dim 50 FL4Pos 500'],
      [('400 200 9', 'Range myEllipse FL4Neg myBoolean3'), ('400 200 10', 'Range myEllipse FL4Dim'), ('400 200 100', 'Range myEllipse FL4Pos myBoolean3'),
       ('600 200 9', 'Range myEllipse FL4Neg myBoolean3'), ('601 200 9', 'Range FL4Neg'), ('99 200 9', 'FL4Neg')]),
+
+    ('example 26, the parent as one operand more, which the document says is the same',
+     ['dims FSC-H SSC-H FL4-W',
+      'rect Range - FSC-H 300 *',
+      'and Parent Range myEllipse !FL4Dim',
+      'and Operand - Range myEllipse !FL4Dim',
+      'ellip myEllipse - FSC-H SSC-H 400 200 40000 0 30625 1',
+      'quad myQuadrantGate2 - 1 FL4-W 2 10 100 FL4Neg 0 FL4Dim 50 FL4Pos 500'],
+     [('400 200 9', 'Range myEllipse FL4Neg Parent Operand'), ('250 200 9', 'myEllipse FL4Neg'), ('400 200 50', 'Range myEllipse FL4Dim'),
+      ('601 200 9', 'Range FL4Neg')]),
+
+    ('example 26, its quadrants within the range: what is outside the range is in no quadrant, and so in the complement of each',
+     ['dims FSC-H SSC-H FL4-W',
+      'rect Range - FSC-H 300 *',
+      'and myBoolean3 - myEllipse !FL4Dim',
+      'or Either - FL4Pos !FL4Dim',
+      'not Same - !FL4Dim',
+      'ellip myEllipse - FSC-H SSC-H 400 200 40000 0 30625 1',
+      'quad myQuadrantGate2 Range 1 FL4-W 2 10 100 FL4Neg 0 FL4Dim 50 FL4Pos 500'],
+     [('250 200 50', 'myEllipse myBoolean3 Either'), ('250 200 9', 'myEllipse myBoolean3 Either'), ('99 200 50', 'Either'),
+      ('400 200 50', 'Range myEllipse FL4Dim Same'), ('400 200 9', 'Range myEllipse FL4Neg myBoolean3 Either'),
+      ('400 200 100', 'Range myEllipse FL4Pos myBoolean3 Either'), ('700 200 50', 'Range FL4Dim Same')]),
+
+    ('section 5.5, one of two but not both, as OR(AND(A, NOT(B)), AND(NOT(A), B)); A has a parent',
+     ['dims FSC-H SSC-H',
+      'or Xor - OnlyA OnlyB',
+      'and OnlyA - A !B',
+      'and OnlyB - !A B',
+      'rect A P FSC-H 10 30',
+      'rect B - SSC-H 10 20',
+      'rect P - FSC-H 20 *'],
+     [('20 9', 'A P OnlyA Xor'), ('20 10', 'A B P'), ('30 10', 'B P OnlyB Xor'), ('10 10', 'B OnlyB Xor'), ('10 9', ''), ('19 19', 'B OnlyB Xor'),
+      ('30 20', 'P')]),
 ]
 
+# fault of tests/reference/plants.py: words that begin the headings of the vectors that must see it
+FAULTS = {
+    'even-odd': ['example 15 walked twice', 'a star', 'the square'],
+    'edge-excluded': ['example 15, a triangle', 'example 17', 'the square', 'the flat triangle'],
+    'edge-unbounded': ['the square', 'the flat triangle'],
+    'polygon-left-open': ['example 15, a triangle', 'a star'],
+    'top-included': ['example 14', 'example 21', 'examples 24 and 25', 'section 5.5'],
+    'bottom-excluded': ['example 14', 'example 21'],
+    'rim-excluded': ['example 18', 'examples 24 and 25'],
+    'c12-added': ['example 19'],
+    'not-within-parent': ['example 26, its quadrants', 'section 5.5'],
+    'combination-without-parent': ['example 26, the parent'],
+    'lines-above-only': ['examples 24 and 25', 'section 5.5'],
+}
 
-def report(command, lines):
-    text = '\n'.join(lines).replace(' ', '\t') + '\n'
-    done = subprocess.run(command, input=text.encode(), stdout=subprocess.PIPE, timeout=60)
-    return done.stdout.decode().replace('\t', ' ').splitlines()
+
+def given(lines):
+    return ('\n'.join(lines).replace(' ', '\t') + '\n').encode()
+
+
+def printed(output):
+    return output.decode().replace('\t', ' ').splitlines()
+
+
+def runs(table, events):
+    """The inputs of one vector: the table with each event alone, or the table by itself where it is refused."""
+    return [given(table)] if isinstance(events, str) else [given(table + ['events', event]) for event, _ in events]
+
+
+def faults_seen(expect):
+    """Each planted fault gives another answer on each of the vectors named with it."""
+    for fault, headings in FAULTS.items():
+        for words in headings:
+            inputs = [data for heading, table, events in VECTORS if heading.startswith(words) for data in runs(table, events)]
+            plain = [gates.gatecount(data) for data in inputs]
+            with plants.planted(fault):
+                expect('the fault %s is seen by: %s' % (fault, words), True, [gates.gatecount(data) for data in inputs] != plain)
 
 
 def main():
@@ -106,14 +204,15 @@ def main():
             print('FAILED %s: %s expected, %s found' % (what, wanted, found))
 
     for heading, table, events in VECTORS:
+        outputs = [printed(subprocess.run(command, input=data, stdout=subprocess.PIPE, timeout=60).stdout) for data in runs(table, events)]
         if isinstance(events, str):
-            expect(heading, [events], report(command, table))
+            expect(heading, [[events]], outputs)
             continue
-        for event, holders in events:
-            lines = report(command, table + ['events', event])
+        for (event, holders), lines in zip(events, outputs):
             expect('%s, taken, of %s' % (event, heading), ['taken 1', 'spoilt 0'], lines[-2:])
             members = sorted(line.split()[0] for line in lines[:-2] if line.split()[1] == '1')
             expect('%s of %s' % (event, heading), sorted(holders.split()), members)
+    faults_seen(expect)
     print('%d passed, %d failed' % (passed, failed))
     return failed != 0
 
