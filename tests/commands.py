@@ -4,18 +4,26 @@ import os
 import shutil
 import stat
 import tempfile
+import time
 
 from harness import run
 
 WORKED = 'examples/worked.txt'
 
-# Stands for rt in a small repository: notes each call, and builds a program that copies its input; fails where the file `broken` is there.
+# Stands for rt in a small repository: notes each call, and builds a program that copies its input where the crates' text is not that of the last time;
+# fails where the file `broken` is there.
 RT = '''#!/bin/sh
 echo "$@" >>calls
 [ ! -e broken ] || { echo 'rt: gatecount NOT PROVED'; exit 1; }
+mkdir -p target/bin target/stamp
+now=$(cat crates/*/src/* | cksum)
+if [ "$now" = "$(cat target/stamp/gatecount 2>/dev/null)" ]; then
+    echo 'rt: gatecount proved (unchanged since it was last proved)'
+    exit 0
+fi
 echo 'rt: gatecount proved (0 s)'
 echo 'fn gatecount::main: proved'
-mkdir -p target/bin
+echo "$now" >target/stamp/gatecount
 printf '#!/bin/sh\\ncat\\n' >target/bin/gatecount
 chmod +x target/bin/gatecount
 '''
@@ -123,18 +131,33 @@ def building(tests):
             tests.same('making: ' + what, (status, data if status == 0 else b'', silent, calls), had[:2] + (had[2] == b'', made))
             return had[2]
 
-        def later(name):
-            """Gives a file a time that is past that of all that was made."""
-            newest = max(os.stat(os.path.join(at, each)).st_mtime for at, _, files in os.walk(path('target')) for each in files)
-            os.utime(path(name), (newest + 1, newest + 1))
+        def aged(folder, seconds):
+            """Gives all that is in a folder a time that long ago."""
+            for at, folders, files in os.walk(path(folder), topdown=False):
+                for name in files + ['.']:
+                    os.utime(os.path.join(at, name), (began - seconds, began - seconds))
 
+        def settled():
+            """All was made after all that it is made of."""
+            aged('crates', 200)
+            os.utime(path('crates.txt'), (began - 200, began - 200))
+            aged('target', 100)
+
+        def touched(name):
+            """Gives a file a time after that of all that was made, and before now."""
+            settled()
+            os.utime(path(name), (began - 50, began - 50))
+
+        began = time.time()
         environment = dict(os.environ, PATH=path('kit') + os.pathsep + os.environ['PATH'])
         shutil.copytree('tools', path('tools'), symlinks=True)
         write(path('crates.txt'), '# a comment: x\nlaws:\ncounter: laws\ngatecount: counter io libc\nother:\n')
         for name in ('laws', 'counter', 'gatecount', 'other'):
-            write(path('crates/%s/src/lib.rt' % name), '')
+            write(path('crates/%s/src/lib.rt' % name), name)
+        write(path('crates/counter/src/more.rt'), '')
         write(path('crates/laws/must-fail/one.edit'), '')
         write(path('VERSION'), '1.0\n')
+        aged('.', 200)
         bare = '/usr/bin:/bin'
         if not shutil.which('rt', path=bare):
             status, output, told = run([path('tools/gatecount')], b'given\n', env={'PATH': bare})
@@ -142,34 +165,38 @@ def building(tests):
         write(path('kit/rt'), RT, executable=True)
 
         told = expect('a program that is missing', 0, 1, False)
-        tests.note(b'rt: gatecount proved' in told and b'fn ' not in told, 'making: what rt says of crates is told')
+        tests.note(b'rt: gatecount proved (0 s)' in told and b'fn ' not in told, 'making: what rt says of crates is told')
         expect('a program that is fresh', 0, 1, True)
-        later('crates/laws/src/lib.rt')
-        expect('a changed file of a crate that it depends on by another', 0, 2, False)
-        # The stand-in writes the program anew each time; with rt it may stay as it was.
-        os.utime(path('target/bin/gatecount'), (1, 1))
-        os.utime(path('target/build/gatecount.made'))
-        later('target/build/gatecount.made')
+        touched('crates/laws/src/lib.rt')
+        told = expect('a file of a crate that it depends on by another, written again as it was', 0, 2, False)
+        tests.note(b'unchanged' not in told, 'making: of crates that are unchanged nothing is told')
         expect('a program that rt found unchanged', 0, 2, True)
-        later('crates/other/src/lib.rt')
-        expect('a changed file of a crate that it does not depend on', 0, 2, True)
-        later('crates/laws/must-fail/one.edit')
-        expect('a changed must-fail edit', 0, 2, True)
-        os.remove(path('crates/counter/src/lib.rt'))
-        later('crates/counter/src')
-        expect('a file taken away', 0, 3, False)
+        touched('crates/other/src/lib.rt')
+        expect('a file of a crate that it does not depend on', 0, 2, True)
+        touched('crates/laws/must-fail/one.edit')
+        expect('a must-fail edit', 0, 2, True)
+        write(path('crates/laws/src/lib.rt'), 'changed')
+        touched('crates/laws/src/lib.rt')
+        expect('a changed file', 0, 3, False)
+        expect('a changed file, made', 0, 3, True)
+        settled()
+        os.remove(path('crates/counter/src/more.rt'))
+        expect('a file taken away', 0, 4, False)
+        expect('a file taken away, made', 0, 4, True)
+        os.remove(path('target/bin/gatecount'))
+        expect('a program taken away', 0, 5, False)
+        touched('crates.txt')
+        expect('the list of crates', 0, 6, False)
         write(path('broken'), '')
-        os.utime(path('target/bin/gatecount'), (1, 1))
-        os.remove(path('target/build/gatecount.made'))
-        expect('what cannot be proved', 3, 4, False)
+        touched('crates/gatecount/src/lib.rt')
+        expect('what cannot be proved', 3, 7, False)
         tests.note(not os.path.exists(path('target/bin/gatecount')), 'making: a program that cannot be proved is not there')
-        expect('what cannot be proved, again', 3, 5, False)
+        expect('what cannot be proved, again', 3, 8, False)
         os.remove(path('broken'))
-        expect('mended', 0, 6, False)
-        os.rename(path('crates.txt'), path('moved'))
+        expect('mended', 0, 9, False)
         write(path('crates.txt'), 'laws:\n')
         os.remove(path('target/bin/gatecount'))
-        expect('a program whose crate is not there', 3, 6, False)
+        expect('a program whose crate is not there', 3, 9, False)
         status, _, _ = run([path('tools/build'), 'none'], env=environment)
         tests.same('making: a name that is in no list', 2, status)
 
