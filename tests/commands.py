@@ -81,7 +81,7 @@ def failures(tests, name, program, data, has_status):
 
 
 def arguments(tests, command, folder):
-    """The words that a command takes, for one that copies or counts tables."""
+    """The words that a command takes. Each of the programs prints something of any input."""
     data = read(WORKED)
     expected = run([command], data)[:2]
     tests.same(command + ': an input has an output', (0, True), (expected[0], expected[1] != b''))
@@ -222,8 +222,9 @@ def installing(tests, c_program, c_output):
             tests.note(read('target/bin/' + name) == read(os.path.join(prefix, 'libexec/gate-counter', name)), 'the installed %s is that of target/bin' % name)
         command = os.path.join(prefix, 'bin/gatecount')
         tests.same('the installed gatecount', (0, read('examples/worked.out'), b''), run([command, WORKED]))
-        arguments(tests, command, folder)
         failures(tests, 'installed: ', [command], read(WORKED), True)
+        for name in programs:
+            arguments(tests, os.path.join(prefix, 'bin', name), folder)
         link = os.path.join(folder, 'count')
         os.symlink(command, link)
         tests.same('a link to the installed gatecount', (0, read('examples/worked.out'), b''), run([link, WORKED]))
@@ -240,8 +241,9 @@ def installing(tests, c_program, c_output):
 
 def check(tests, c_program, c_output):
     each_has_a_command(tests)
-    with tempfile.TemporaryDirectory() as folder:
-        arguments(tests, 'tools/gatecount', folder)
-    failures(tests, 'tools/gatecount: ', ['tools/gatecount'], read(WORKED), True)
+    for name, _ in products('program'):
+        with tempfile.TemporaryDirectory() as folder:
+            arguments(tests, 'tools/' + name, folder)
+        failures(tests, 'tools/%s: ' % name, ['tools/' + name], read(WORKED), True)
     building(tests)
     installing(tests, c_program, c_output)

@@ -20,7 +20,7 @@ BOX_HEIGHT, LAYER, GAP, LETTER, MARGIN = 30, 74, 22, 8, 24
 WAY = 12                # width kept free where an arrow passes a layer
 SWEEPS = 24             # of ordering the rows
 ROUNDS = 300            # of moving the boxes
-COLOURS = ('#dddddd', '#cfe6f5', '#fbe3b5', '#cdebdf', '#f3d9e6', '#e3dcf7', '#fbd9c9')
+COLOURS = ('#dddddd', '#cfe6f5', '#fbe3b5', '#cdebdf', '#f3d9e6', '#e3dcf7', '#fbd9c9', '#e9eec2', '#c9d3f0', '#ead7c3')
 
 
 # ---------------------------------------------------------------- crates.txt
@@ -165,6 +165,20 @@ class Picture:
 
 # ---------------------------------------------------------------- the picture
 
+def curve(points):
+    """A smooth path through points, upright at both ends."""
+    path = 'M%d %d' % points[0]
+    for at, (begin, end) in enumerate(zip(points, points[1:])):
+        third = (end[1] - begin[1]) // 3
+        leave = reach = 0
+        if at > 0:
+            leave = (end[0] - points[at - 1][0]) * third // (end[1] - points[at - 1][1])
+        if at + 2 < len(points):
+            reach = (points[at + 2][0] - begin[0]) * third // (points[at + 2][1] - begin[1])
+        path += 'C%d %d %d %d %d %d' % (begin[0] + leave, begin[1] + third, end[0] - reach, end[1] - third, end[0], end[1])
+    return path
+
+
 def svg(text, products):
     needs, groups = read_crates(text)
     picture = Picture(direct(needs))
@@ -186,13 +200,9 @@ def svg(text, products):
            '<path d="M0 0L8 4L0 8z" fill="#777"/></marker></defs>',
            '<rect width="%d" height="%d" fill="#fff"/>' % (picture.right, height)]
     for way in picture.ways:
-        path = 'M%d %d' % (picture.x[way[0]], top(way[0]) + BOX_HEIGHT)
-        for high, low in zip(way, way[1:]):
-            begin, end = top(high) + BOX_HEIGHT, top(low)
-            bend = (end - begin) // 2
-            path += 'C%d %d %d %d %d %d' % (picture.x[high], begin + bend, picture.x[low], end - bend, picture.x[low], end)
-            if low != way[-1]:
-                path += 'V%d' % (end + BOX_HEIGHT)
+        points = [(picture.x[way[0]], top(way[0]) + BOX_HEIGHT)]
+        points += [(picture.x[point], top(point) + BOX_HEIGHT // 2) for point in way[1:-1]]
+        path = curve(points + [(picture.x[way[-1]], top(way[-1]))])
         out.append('<path d="%s" fill="none" stroke="#777" marker-end="url(#tip)"><title>%s uses %s</title></path>' % (path, way[0], way[-1]))
     for name in needs:
         wide, x, y = picture.width(name), picture.x[name], top(name)
