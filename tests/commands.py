@@ -14,18 +14,18 @@ WORKED = 'examples/worked.txt'
 # fails where the file `broken` is there.
 RT = '''#!/bin/sh
 echo "$@" >>calls
-[ ! -e broken ] || { echo 'rt: gatecount NOT PROVED'; exit 1; }
+[ ! -e broken ] || { echo "rt: $2 NOT PROVED"; exit 1; }
 mkdir -p target/bin target/stamp
 now=$(cat crates/*/src/* | cksum)
-if [ "$now" = "$(cat target/stamp/gatecount 2>/dev/null)" ]; then
-    echo 'rt: gatecount proved (unchanged since it was last proved)'
+if [ "$now" = "$(cat "target/stamp/$2" 2>/dev/null)" ]; then
+    echo "rt: $2 proved (unchanged since it was last proved)"
     exit 0
 fi
-echo 'rt: gatecount proved (0 s)'
-echo 'fn gatecount::main: proved'
-echo "$now" >target/stamp/gatecount
-printf '#!/bin/sh\\ncat\\n' >target/bin/gatecount
-chmod +x target/bin/gatecount
+echo "rt: $2 proved (0 s)"
+echo "fn $2::main: proved"
+echo "$now" >"target/stamp/$2"
+printf '#!/bin/sh\\ncat\\n' >"target/bin/$2"
+chmod +x "target/bin/$2"
 '''
 
 
@@ -124,9 +124,9 @@ def building(tests):
         def path(name):
             return os.path.join(folder, name)
 
-        def expect(what, status, calls, silent, data=b'given\n'):
+        def expect(what, status, calls, silent, program='gatecount', data=b'given\n'):
             """One run: its exit status, how often rt was called, whether standard error is empty."""
-            had = run([path('tools/gatecount')], data, env=environment)
+            had = run([path('tools/' + program)], data, env=environment)
             made = len(read(path('calls')).splitlines()) if os.path.exists(path('calls')) else 0
             tests.same('making: ' + what, (status, data if status == 0 else b'', silent, calls), had[:2] + (had[2] == b'', made))
             return had[2]
@@ -151,8 +151,8 @@ def building(tests):
         began = time.time()
         environment = dict(os.environ, PATH=path('kit') + os.pathsep + os.environ['PATH'])
         shutil.copytree('tools', path('tools'), symlinks=True)
-        write(path('crates.txt'), '# a comment: x\nlaws:\ncounter: laws\ngatecount: counter io libc\nother:\n')
-        for name in ('laws', 'counter', 'gatecount', 'other'):
+        write(path('crates.txt'), '# a comment: x\nlaws:\ncounter: laws\ngatecount: counter io libc\ngateplan: laws io\nother:\n')
+        for name in ('laws', 'counter', 'gatecount', 'gateplan', 'other'):
             write(path('crates/%s/src/lib.rt' % name), name)
         write(path('crates/counter/src/more.rt'), '')
         write(path('crates/laws/must-fail/one.edit'), '')
@@ -167,36 +167,37 @@ def building(tests):
         told = expect('a program that is missing', 0, 1, False)
         tests.note(b'rt: gatecount proved (0 s)' in told and b'fn ' not in told, 'making: what rt says of crates is told')
         expect('a program that is fresh', 0, 1, True)
+        expect('another program', 0, 2, False, 'gateplan')
+        expect('another program that is fresh', 0, 2, True, 'gateplan')
+        expect('a program that is fresh beside another', 0, 2, True)
+        expect('a program whose crate is not there', 3, 2, False, 'gaterun')
         touched('crates/laws/src/lib.rt')
-        told = expect('a file of a crate that it depends on by another, written again as it was', 0, 2, False)
+        told = expect('a file of a crate that it depends on by another, written again as it was', 0, 3, False)
         tests.note(b'unchanged' not in told, 'making: of crates that are unchanged nothing is told')
-        expect('a program that rt found unchanged', 0, 2, True)
+        expect('a program that rt found unchanged', 0, 3, True)
         touched('crates/other/src/lib.rt')
-        expect('a file of a crate that it does not depend on', 0, 2, True)
+        expect('a file of a crate that it does not depend on', 0, 3, True)
         touched('crates/laws/must-fail/one.edit')
-        expect('a must-fail edit', 0, 2, True)
+        expect('a must-fail edit', 0, 3, True)
         write(path('crates/laws/src/lib.rt'), 'changed')
         touched('crates/laws/src/lib.rt')
-        expect('a changed file', 0, 3, False)
-        expect('a changed file, made', 0, 3, True)
+        expect('a changed file', 0, 4, False)
+        expect('a changed file, made', 0, 4, True)
         settled()
         os.remove(path('crates/counter/src/more.rt'))
-        expect('a file taken away', 0, 4, False)
-        expect('a file taken away, made', 0, 4, True)
+        expect('a file taken away', 0, 5, False)
+        expect('a file taken away, made', 0, 5, True)
         os.remove(path('target/bin/gatecount'))
-        expect('a program taken away', 0, 5, False)
+        expect('a program taken away', 0, 6, False)
         touched('crates.txt')
-        expect('the list of crates', 0, 6, False)
+        expect('the list of crates', 0, 7, False)
         write(path('broken'), '')
         touched('crates/gatecount/src/lib.rt')
-        expect('what cannot be proved', 3, 7, False)
+        expect('what cannot be proved', 3, 8, False)
         tests.note(not os.path.exists(path('target/bin/gatecount')), 'making: a program that cannot be proved is not there')
-        expect('what cannot be proved, again', 3, 8, False)
+        expect('what cannot be proved, again', 3, 9, False)
         os.remove(path('broken'))
-        expect('mended', 0, 9, False)
-        write(path('crates.txt'), 'laws:\n')
-        os.remove(path('target/bin/gatecount'))
-        expect('a program whose crate is not there', 3, 9, False)
+        expect('mended', 0, 10, False)
         status, _, _ = run([path('tools/build'), 'none'], env=environment)
         tests.same('making: a name that is in no list', 2, status)
 
