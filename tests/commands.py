@@ -1,5 +1,6 @@
 """Tests of the commands in tools/: the programs with an exit status, making them when they are stale, installing them."""
 
+import glob
 import os
 import shutil
 import stat
@@ -108,9 +109,13 @@ def arguments(tests, command, folder):
 
 
 def each_has_a_command(tests):
-    """Each program of tools/products.txt, and nothing else, has a link in tools/ to the script that runs it."""
+    """tools/products.txt has all programs and archives; each program, and nothing else, has a link in tools/ to the script that runs it."""
     with open('tools/products.txt', encoding='utf-8') as file:
         listed = sorted(line.split()[1] for line in file if line.startswith('program '))
+    tests.same('tools/products.txt: the programs', sorted(path.split('/')[1] for path in glob.glob('crates/*/src/main.rt')),
+               sorted(name for name, _ in products('program')))
+    tests.same('tools/products.txt: the archives', sorted({path.split('/')[1] for path in glob.glob('crates/*/src/*.rt') if b'pub extern "C" fn' in read(path)}),
+               sorted(name for name, _ in products('archive')))
     links = sorted(name for name in os.listdir('tools') if os.path.islink('tools/' + name))
     tests.same('the links in tools/', listed, links)
     tests.same('where they lead', {'run-program'}, {os.readlink('tools/' + name) for name in links})
