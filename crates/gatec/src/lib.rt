@@ -35,9 +35,9 @@ fn checked_place(a: Checked) -> u64
 pub extern "C" fn gate_check(plan: &[i32], out: &mut [u64; 2])
     ensures { λ _. ⌜ now (out .exit) ≡ sets (now (out .entry)) 0 (checkRow (checkOf (now (plan .entry)))) ⌝ }
 {
-    let a = check(plan);
-    out[0] = checked_number(a);
-    out[1] = checked_place(a);
+    let form = check(plan);
+    out[0] = checked_number(form);
+    out[1] = checked_place(form);
 }
 
 // The counts, behind the four numbers before them.
