@@ -1,7 +1,6 @@
 // The C interface: checking and counting over lent slices. Each answer is written whole into `out`.
 ghost use mathlib.Core.Path.{_≡_};
-ghost use mathlib.Core.List.{_++_};
-ghost use lib.ListN.{length, take};
+ghost use lib.Seq.{sets};
 ghost use Rattle.plans.specs.Refusals.{verdict};
 ghost use Rattle.plans.specs.Form.{checkOf};
 ghost use Rattle.counter.specs.Counting.{countOf};
@@ -34,16 +33,16 @@ fn checked_place(a: Checked) -> u64
 // out: number, place.
 #[no_mangle]
 pub extern "C" fn gate_check(plan: &[i32], out: &mut [u64; 2])
-    ensures { λ _. ⌜ (length (now (out .entry)) ≡ 2 → now (out .exit) ≡ checkRow (checkOf (now (plan .entry)))) ⌝ }
+    ensures { λ _. ⌜ now (out .exit) ≡ sets (now (out .entry)) 0 (checkRow (checkOf (now (plan .entry)))) ⌝ }
 {
-    let a = check(plan);
-    out[0] = checked_number(a);
-    out[1] = checked_place(a);
+    let form = check(plan);
+    out[0] = checked_number(form);
+    out[1] = checked_place(form);
 }
 
 // The counts, behind the four numbers before them.
 fn put_counts(counts: [u64; 64], out: &mut [u64; 68])
-    ensures { λ _. ⌜ (length (now (out .entry)) ≡ 68 → now (out .exit) ≡ take 4 (now (out .entry)) ++ counts) ⌝ }
+    ensures { λ _. ⌜ now (out .exit) ≡ sets (now (out .entry)) 4 counts ⌝ }
 {
     let mut i: usize = 0;
     while i < 64 {
@@ -55,7 +54,7 @@ fn put_counts(counts: [u64; 64], out: &mut [u64; 68])
 // out: number, place, taken, spoilt, 64 counts.
 #[no_mangle]
 pub extern "C" fn gate_count(plan: &[i32], events: &[i32], out: &mut [u64; 68])
-    ensures { λ _. ⌜ (length (now (out .entry)) ≡ 68 → now (out .exit) ≡ countRow (countOf (now (plan .entry)) (now (events .entry)))) ⌝ }
+    ensures { λ _. ⌜ now (out .exit) ≡ sets (now (out .entry)) 0 (countRow (countOf (now (plan .entry)) (now (events .entry)))) ⌝ }
 {
     let c = count(plan, events);
     let a = c.answer;

@@ -1,2 +1,2 @@
--- Laws of the rows.
-pub mod RowLaws
+-- Laws of the answers.
+pub mod AnswerLaws

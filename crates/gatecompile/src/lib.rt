@@ -1,7 +1,7 @@
 // The C interface of the compiler. The answer is written whole into `out`.
 ghost use mathlib.Core.Path.{_≡_};
 ghost use mathlib.Core.List.{[]};
-ghost use lib.ListN.{length};
+ghost use lib.Seq.{sets};
 ghost use Rattle.tables.specs.Compile.{compileOf};
 ghost use Rattle.compiler.specs.Answers.{compiling};
 ghost use Rattle.gatecompile.specs.Answers.{compileRow};
@@ -59,7 +59,8 @@ fn regions(c: Compiled) -> u64
 // out: number, place, words, regions. The plan is written over the beginning of a slice; after a refusal the slice is unchanged.
 #[no_mangle]
 pub extern "C" fn gate_compile(table: &[u8], plan: &mut [i32], out: &mut [u64; 4])
-    ensures { λ _. ⌜ (length (now (out .entry)) ≡ 4 → (now (out .exit) ≡ compileRow (compileOf (now (table .entry)) (now (plan .entry))))) × (now (plan .exit) ≡ compileOf (now (table .entry)) (now (plan .entry)) .slice) ⌝ }
+    ensures row { λ _. ⌜ now (out .exit) ≡ sets (now (out .entry)) 0 (compileRow (compileOf (now (table .entry)) (now (plan .entry)))) ⌝ }
+    ensures slice { λ _. ⌜ now (plan .exit) ≡ compileOf (now (table .entry)) (now (plan .entry)) .slice ⌝ }
 {
     let c = compile(table, plan);
     out[0] = number(c);

@@ -1,6 +1,6 @@
 // The C interface: judging one event. An archive of its own, so that the counting loop is the only caller of its body in the other.
 ghost use mathlib.Core.Path.{_≡_};
-ghost use lib.ListN.{length};
+ghost use lib.Seq.{sets};
 ghost use Rattle.counter.specs.Judging.{judgement, judgeOf};
 ghost use Rattle.gatejudge.specs.Answers.{judgeRow};
 use counter::Judged;
@@ -38,7 +38,7 @@ fn judged_bits(a: Judged) -> u64
 // out: number, place, 64 bits.
 #[no_mangle]
 pub extern "C" fn gate_judge(plan: &[i32], event: &[i32], out: &mut [u64; 3])
-    ensures { λ _. ⌜ (length (now (out .entry)) ≡ 3 → now (out .exit) ≡ judgeRow (judgeOf (now (plan .entry)) (now (event .entry)))) ⌝ }
+    ensures { λ _. ⌜ now (out .exit) ≡ sets (now (out .entry)) 0 (judgeRow (judgeOf (now (plan .entry)) (now (event .entry)))) ⌝ }
 {
     let a = judge(plan, event);
     out[0] = judged_number(a);

@@ -1,0 +1,45 @@
+-- Where `out` has its declared length, it is the row afterwards, whatever it held before.
+use mathlib.Core.Path.{_≡_, refl, _∙_}
+use mathlib.Core.Bool.{Bool, true, false, cond}
+use mathlib.Core.List.{List, _++_, append-nil}
+use Prim.Native.Nat.{ℕ, _+_, _/_, _%_}
+use native.Mathlib.Omega.{arith}
+use lib.Dec.{eqb}
+use lib.IntN.{ℤ}
+use lib.ListN.{length, drop, drop-of-length-le}
+use lib.Seq.{sets, sets-eq}
+use Rattle.plans.specs.Refusals.{Verdict, passed, refused}
+use Rattle.plans.specs.Form.{width, checkOf}
+use Rattle.counter.specs.Counting.{Counting, tallyOf, noTally, countPassed, countOf}
+use Rattle.counter.proofs.TallyLaws.{counts-long}
+use Rattle.gatec.specs.Answers.{checkRow, countRow}
+
+row-whole : (row o : List ℕ) → length o ≡ length row → sets o 0 row ≡ row
+row-whole row o h =
+    let none = drop-of-length-le o {i = 0 + length row} (omega arith) in
+    sets-eq row o 0 (omega arith) ∙ rw none (append-nil row)
+
+pub check-whole : (v : Verdict) (o : List ℕ) → length o ≡ 2 → sets o 0 (checkRow v) ≡ checkRow v
+check-whole v o h = row-whole (checkRow v) o h
+
+-- a tally has 64 counts
+count-long : (p events : List ℤ) → length (countOf p events .tally .counts) ≡ 64
+unfolding countOf countPassed noTally
+count-long p events = go (eqb (checkOf p .number) 0) (eqb (length events % width p) 0)
+  where
+    counted : Counting
+    counted = record { verdict = passed; tally = tallyOf p events (length events / width p) }
+
+    ragged : Counting
+    ragged = record { verdict = refused 23 (length events); tally = noTally }
+
+    malformed : Counting
+    malformed = record { verdict = checkOf p; tally = noTally }
+
+    go : (a b : Bool) → length (cond a (cond b counted ragged) malformed .tally .counts) ≡ 64
+    go true true = counts-long p events (length events / width p)
+    go true false = refl
+    go false b = refl
+
+pub count-whole : (p events : List ℤ) (o : List ℕ) → length o ≡ 68 → sets o 0 (countRow (countOf p events)) ≡ countRow (countOf p events)
+count-whole p events o h = let n = count-long p events in row-whole (countRow (countOf p events)) o (omega arith)
