@@ -28,8 +28,7 @@ add-result c =
 returns : tie.Need-returns Inv-loop μ-loop
 returns c =
     let at-test = c .before .before .before in
-    let l = at-test .before in
-    let loop = l .loop in (
+    let loop = at-test .before .loop in (
       bad-found _ _ (loop .at) (loop .k) (loop .inv) (at-test .loop-test .taken)
           (rw (c .before .is-event .ensures, c .before .before .line-from .ensures) at (c .if1 .taken)),
       omega (arith, loop .inv .below),
@@ -59,16 +58,14 @@ loop-again c =
 
 returns-2 : tie.Need-returns-2 Inv-loop μ-loop
 returns-2 c =
-    let l = c .before .before .before in
-    let loop = l .loop in (
+    let loop = c .before .before .before .loop in (
       bad-open _ _ (loop .at) (loop .k) (loop .inv) (c .before .before .loop-test .left) (sym (c .before .ends-in-lf .ensures) ∙ not-true _ (c .if2 .taken)),
       omega (arith, loop .inv .below, loop .inv .inside),
     )
 
 returns-3 : tie.Need-returns-3 Inv-loop μ-loop
 returns-3 c =
-    let l = c .before .before .before in
-    let loop = l .loop in (
+    let loop = c .before .before .before .loop in (
       bad-none _ _ (loop .at) (loop .k) (loop .inv) (c .before .before .loop-test .left) (sym (c .before .ends-in-lf .ensures) ∙ not-false _ (c .if2 .left)),
       search needs,
     )

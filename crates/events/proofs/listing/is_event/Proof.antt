@@ -28,8 +28,7 @@ loop-holds c = (sym (c .if1 .left) ∙ c .before .field-count .ensures, refl)
 
 returns-2 : tie.Need-returns-2 Inv-loop μ-loop
 returns-2 c =
-    let l = c .before .before .before .before in
-    let loop = l .loop in
+    let loop = c .before .before .before .before .loop in
     event-misformed _ _ (loop .k) (loop .inv .1) (omega arith)
     (rw (c .before .before .field .ensures) at (sym (c .before .is-number .ensures)) ∙ not-true _ (c .if2 .taken))
 

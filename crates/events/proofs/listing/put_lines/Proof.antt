@@ -47,8 +47,7 @@ loop-again : tie.Need-loop-again Inv-loop μ-loop
 loop-again c =
     let w = c .before .before in
     let after-line-from = w .before in
-    let l = after-line-from .before .before .before in
-    let loop = l .loop in
+    let loop = after-line-from .before .before .before .loop in
     filled-more _ _ (loop .at) (loop .m) (loop .inv) (after-line-from .before .before .loop-test .taken)
     (rw (after-line-from .line-from .ensures) at (w .put-line-from .ensures .0))
     _ (c .find .ensures) _ (rw (after-line-from .line-from .ensures) at (w .put-line-from .ensures .1))

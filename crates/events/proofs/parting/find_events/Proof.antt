@@ -23,8 +23,7 @@ returns : tie.Need-returns Inv-loop μ-loop
 returns c =
     let s = c .before in
     let at-test = s .before .before .before in
-    let l = at-test .before in
-    let loop = l .loop in (
+    let loop = at-test .before .loop in (
       opening-found _ (loop .at) (loop .before) (loop .inv) (at-test .loop-test .taken)
           (rw (s .before .line-from .ensures) at (sym (s .same .ensures)) ∙ c .if1 .taken),
       omega arith,
