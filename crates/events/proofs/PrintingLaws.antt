@@ -21,7 +21,8 @@ pub written-more : (p d q : List ℕ) {x y : List ℕ} {a c : ℕ} → Written p
 written-more p d q w v = (simp length-append (omega arith), over-from p d _ _ q _ (sym (w .0)) (w .1) (v .1))
 
 module _ (d : List ℕ) {x₁ x₂ x₃ x₄ : List ℕ} {a b c e : ℕ} where
-  pub count-written : (name : List ℕ) (n : ℕ) → Written name d a x₁ → WrittenFrom a (9 ∷ []) x₁ b x₂ → WrittenFrom (a + b) (decimal n) x₂ c x₃ → WrittenFrom (a + b + c) (10 ∷ []) x₃ e x₄
+  pub count-written : (name : List ℕ) (n : ℕ) → Written name d a x₁ → WrittenFrom a (9 ∷ []) x₁ b x₂ → WrittenFrom (a + b) (decimal n) x₂ c x₃
+      → WrittenFrom (a + b + c) (10 ∷ []) x₃ e x₄
       → Written (countLine name n) d (a + b + c + e) x₄
   unfolding countLine
   count-written name n w₁ w₂ w₃ w₄ =
@@ -30,7 +31,8 @@ module _ (d : List ℕ) {x₁ x₂ x₃ x₄ : List ℕ} {a b c e : ℕ} where
       let v₃ = written-more (name ++ (9 ∷ [])) d (decimal n) v₂ w₃ in
       rw q at (written-more ((name ++ (9 ∷ [])) ++ decimal n) d (10 ∷ []) v₃ w₄)
 
-  pub refused-written : {x₅ : List ℕ} {f : ℕ} (head : List ℕ) (n k : ℕ) → Written head d a x₁ → WrittenFrom a (decimal n) x₁ b x₂ → WrittenFrom (a + b) (9 ∷ []) x₂ c x₃
+  pub refused-written : {x₅ : List ℕ} {f : ℕ} (head : List ℕ) (n k : ℕ) → Written head d a x₁ → WrittenFrom a (decimal n) x₁ b x₂
+      → WrittenFrom (a + b) (9 ∷ []) x₂ c x₃
       → WrittenFrom (a + b + c) (decimal k) x₃ e x₄ → WrittenFrom (a + b + c + e) (10 ∷ []) x₄ f x₅
       → Written (head ++ (decimal n ++ (9 ∷ (decimal k ++ (10 ∷ []))))) d (a + b + c + e + f) x₅
   refused-written head n k w₁ w₂ w₃ w₄ w₅ =

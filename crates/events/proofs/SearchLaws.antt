@@ -47,7 +47,9 @@ module _ (f : List ℕ → Bool) (s : List ℕ) where
       found-number = p .first ∙ rw (lines-cut s a l, h) (omega arith)
 
       pub found-below : k < length (lines s)
-      found-below = let e : length (lines (drop a s)) ≡ suc (length (lines (drop (findFrom s a 10 + 1) s))) = ap length (lines-cut s a l) in omega (arith, p .count)
+      found-below =
+          let e : length (lines (drop a s)) ≡ suc (length (lines (drop (findFrom s a 10 + 1) s))) = ap length (lines-cut s a l) in
+          omega (arith, p .count)
 
       pub found-place : placeOf f s ≡ a
       found-place = p .place ∙ rw (starts-cut s a l, lines-cut s a l, h)

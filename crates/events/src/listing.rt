@@ -120,7 +120,8 @@ fn rest_from(s: &[u8], a: usize) -> &[u8]
 // Reads the events of n values that the input has into list. A list of half as many values as the input has bytes is never too
 // short (the theorem never-short).
 pub fn read_events(input: &[u8], n: usize, list: &mut [i32]) -> Answer
-    ensures { λ r. ⌜ (r ≡ answerOf (eventsOf n (now (input .entry))) (length (now (list .entry)))) × (now (list .exit) ≡ over (listed (eventsOf n (now (input .entry)))) (now (list .entry))) ⌝ }
+    ensures { λ r. ⌜ (r ≡ answerOf (eventsOf n (now (input .entry))) (length (now (list .entry))))
+        × (now (list .exit) ≡ over (listed (eventsOf n (now (input .entry)))) (now (list .entry))) ⌝ }
 {
     let s = split(input);
     let found = s.found;

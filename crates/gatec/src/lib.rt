@@ -1,4 +1,5 @@
 // The C interface: checking and counting over lent slices. Each answer is written whole into `out`.
+// `sets` (lib.Seq) stores the elements of a row one by one from an index on, as far as `out` goes.
 ghost use mathlib.Core.Path.{_≡_};
 ghost use lib.Seq.{sets};
 ghost use Rattle.plans.specs.Refusals.{verdict};

@@ -1,4 +1,5 @@
 // The C interface of the compiler. The answer is written whole into `out`.
+// `sets` (lib.Seq) stores the elements of a row one by one from an index on, as far as `out` goes.
 ghost use mathlib.Core.Path.{_≡_};
 ghost use mathlib.Core.List.{[]};
 ghost use lib.Seq.{sets};

@@ -69,7 +69,8 @@ pub fn quadrant_count(line: &[u8]) -> usize
 
 // The field at which quadrant q begins, or the number of fields where there is no such quadrant.
 pub fn quadrant_at(line: &[u8], q: usize) -> usize
-    ensures { λ r. ⌜ r ≡ cond (ltb q (quadrantCount (fields (now (line .entry))))) (quadrantAt (fields (now (line .entry))) q) (length (fields (now (line .entry)))) ⌝ }
+    ensures { λ r. ⌜ r ≡ cond (ltb q (quadrantCount (fields (now (line .entry)))))
+        (quadrantAt (fields (now (line .entry))) q) (length (fields (now (line .entry)))) ⌝ }
 {
     let n = field_count(line);
     if q < quadrant_count(line) {

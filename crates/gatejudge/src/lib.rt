@@ -1,4 +1,5 @@
 // The C interface: judging one event. An archive of its own, so that the counting loop is the only caller of its body in the other.
+// `sets` (lib.Seq) stores the elements of a row one by one from an index on, as far as `out` goes.
 ghost use mathlib.Core.Path.{_≡_};
 ghost use lib.Seq.{sets};
 ghost use Rattle.counter.specs.Judging.{judgement, judgeOf};

@@ -38,7 +38,11 @@ fields-length s = parts-length 9 s
 -- so the fields of quadrant q are numbered below that
 pub quadrant-below : (s : List ℕ) (q : ℕ) → q < quadrantCount (fields s) → quadrantAt (fields s) q + 1 + dividerCount (fields s) ≤ length s + 1
 unfolding quadrantAt
-quadrant-below s q h = let fs = fields s in let d = dividerCount fs in let g : d ≡ dividerCount fs = refl in omega (arith, fields-length s, quadrant-fits fs q d g h)
+quadrant-below s q h =
+    let fs = fields s in
+    let d = dividerCount fs in
+    let g : d ≡ dividerCount fs = refl in
+    omega (arith, fields-length s, quadrant-fits fs q d g h)
 
 pub count-le : (f : ℕ → Bool) (n k : ℕ) → k ≡ howMany f n → k ≤ n
 count-le f n k e = rw e (howMany-le f n)

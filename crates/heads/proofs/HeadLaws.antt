@@ -31,7 +31,8 @@ first-line s = go (decLt 0 (length s))
 module _ (fs : List (List ℕ)) (k : ℕ) where
   -- ---- names
 
-  pub names-more : {y : List ℕ} {b : Bool} → k < length fs → y ≡ getD fs k [] → b ≡ isName y → b ≡ true → every isName (drop k fs) ≡ every isName (drop (k + 1) fs)
+  pub names-more : {y : List ℕ} {b : Bool} → k < length fs → y ≡ getD fs k [] → b ≡ isName y → b ≡ true
+      → every isName (drop k fs) ≡ every isName (drop (k + 1) fs)
   names-more h g e t = rw (add-one, drop-cons fs k [] h, ← g, ← e, t)
 
   pub names-stop : {y : List ℕ} {b : Bool} → k < length fs → y ≡ getD fs k [] → b ≡ isName y → b ≡ false → every isName (drop k fs) ≡ false

@@ -20,7 +20,8 @@ module _ (fs : List (List ℕ)) (q : ℕ) where
   unfolding quadrantName
   quadrant-read k e = rw e (go (decLt q (quadrantCount fs)))
     where
-      go : Dec (q < quadrantCount fs) → getD fs (cond (ltb q (quadrantCount fs)) (quadrantAt fs q) (length fs)) [] ≡ cond (ltb q (quadrantCount fs)) (fieldAt fs (quadrantAt fs q)) []
+      go : Dec (q < quadrantCount fs)
+          → getD fs (cond (ltb q (quadrantCount fs)) (quadrantAt fs q) (length fs)) [] ≡ cond (ltb q (quadrantCount fs)) (fieldAt fs (quadrantAt fs q)) []
       go (yes h) = rw (lt-ltb q (quadrantCount fs) h)
       go (no h) = rw (le-ltb q (quadrantCount fs) (omega arith)) (List·getD-eq-default fs [] {n = length fs} (omega arith))
 

@@ -29,7 +29,10 @@ module _ {A : Type 0} (f : ℕ → A) (n : ℕ) where
   tab-in i h = Memᴰ·cast (sym (getD-tab f (f i) n i h)) (at-in (f i) (tab f n) i (rw (length-tab f n) h))
 
   pub in-tab : {x : A} → x ∈ tab f n → (i : ℕ) × (i < n) × (f i ≡ x)
-  in-tab {x} m = let w = index-of x (tab f n) m in let h : w .0 < n = rw (length-tab f n) at (w .1) in (w .0, h, sym (getD-tab f x n (w .0) h) ∙ w .2)
+  in-tab {x} m =
+      let w = index-of x (tab f n) m in
+      let h : w .0 < n = rw (length-tab f n) at (w .1) in
+      (w .0, h, sym (getD-tab f x n (w .0) h) ∙ w .2)
 
   module _ (p : A → Bool) (other : ℕ → Bool) (e : (i : ℕ) → other i ≡ not (p (f i))) where
     -- the first that passes is there where some pass
@@ -39,7 +42,8 @@ module _ {A : Type 0} (f : ℕ → A) (n : ℕ) where
         go : Dec (firstBad other 0 n < n) → ltb (firstBad other 0 n) n ≡ someOf p (tab f n)
         go (yes h) =
             lt-ltb (firstBad other 0 n) n h
-            ∙ sym (some-at p (tab-in (firstBad other 0 n) h) (not-not (p (f (firstBad other 0 n))) (sym (e (firstBad other 0 n)) ∙ first-at other 0 n (omega arith))))
+            ∙ sym (some-at p (tab-in (firstBad other 0 n) h)
+            (not-not (p (f (firstBad other 0 n))) (sym (e (firstBad other 0 n)) ∙ first-at other 0 n (omega arith))))
         go (no h) =
             le-ltb (firstBad other 0 n) n (omega arith)
             ∙ sym (unless (someOf p (tab f n)) (λ t.

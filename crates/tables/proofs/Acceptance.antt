@@ -134,8 +134,10 @@ module _ (slice : ℕ) (text : List ℕ) where
   pub accepted-passed : Accepted slice text → tableVerdict slice text ≡ passed
   unfolding tableVerdict planOf
   accepted-passed a =
-      let e = a .ends in let h = a .head in
+      let e = a .ends in
+      let h = a .head in
       rw (le-ltb 32768 (length text) (a .short), e, h)
-      (passed-unless (refusalAt (dimensions text) (gateLines text)) (lineGood (dimensions text) (gateLines text)) (length (gateLines text)) _ (good-line (a .lines-good))
+      (passed-unless (refusalAt (dimensions text) (gateLines text)) (lineGood (dimensions text) (gateLines text)) (length (gateLines text)) _
+      (good-line (a .lines-good))
       ∙ passed-gates slice (length (dimensions text)) (gates text) (hold-rules (gates text) (a .rules))
       (passed-size slice (length (planWords (length (dimensions text)) (regions (gates text)))) (a .plan-fits) (a .slice-fits)))

@@ -81,7 +81,8 @@ module _ (text : List ℕ) (accepted : tableVerdict 4096 text ≡ passed) (ks : 
   is-passing = rw is-plan (plan-passes 4096 again b)
 
   -- the tally is that of the plan's words
-  is-counting : countOf (lent (compileOf again slice)) values ≡ record { verdict = passed; tally = tallyOf (planWords n (regions u)) values (eventCount text values) }
+  is-counting : countOf (lent (compileOf again slice)) values
+      ≡ record { verdict = passed; tally = tallyOf (planWords n (regions u)) values (eventCount text values) }
   is-counting =
       let p = planWords n (regions u) in
       let w = plan-width n (regions u) in

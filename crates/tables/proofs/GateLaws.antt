@@ -61,7 +61,8 @@ own-given n p (quad qs) m = there (rw (quadrant-names p qs) at m)
 
 name-given : (t : List Gate) {x : Name} → x ∈ names (regions t) → x ∈ given t
 name-given [] m = m
-name-given (g ∷ t) {x} m = go (List·Memᴰ·append-cases (names (gateRegions g)) (rw (map-append (λ (r : Region). r .name) (gateRegions g) (regions t)) at m)) (λ k. name-given t k)
+name-given (g ∷ t) {x} m =
+    go (List·Memᴰ·append-cases (names (gateRegions g)) (rw (map-append (λ (r : Region). r .name) (gateRegions g) (regions t)) at m)) (λ k. name-given t k)
   where
     go : (x ∈ names (gateRegions g)) ⊎ (x ∈ names (regions t)) → (x ∈ names (regions t) → x ∈ given t) → x ∈ given (g ∷ t)
     go (inl k) ih = Memᴰ·append-left (given t) (own-given (g .name) (g .parent) (g .body) k)
@@ -159,7 +160,9 @@ swap-distinct l k m d =
     (λ n i j. ⊎-elim (λ x. s .2 n x (Memᴰ·append-left m i)) (λ x. r .2 n i x) (List·Memᴰ·append-cases l j))
 
 next-distinct : (g : Gate) (t u : List Gate) → List·Permᴰ t u → Distinct (given (g ∷ t)) → (Distinct (given t) → Distinct (given u)) → Distinct (given (g ∷ u))
-next-distinct g t u p d ih = let s = split (ownNames g) (given t) d in unite (ownNames g) (given u) (s .0) (ih (s .1)) (λ n i j. s .2 n i (moved-given (Permᴰ·symm p) j))
+next-distinct g t u p d ih =
+    let s = split (ownNames g) (given t) d in
+    unite (ownNames g) (given u) (s .0) (ih (s .1)) (λ n i j. s .2 n i (moved-given (Permᴰ·symm p) j))
 
 moved-distinct : {t u : List Gate} → List·Permᴰ t u → Distinct (given t) → Distinct (given u)
 moved-distinct List·Permᴰ·nil d = d

@@ -98,4 +98,7 @@ module _ {A : Type 0} (d : A) where
     where
       go : (x ≡ y) ⊎ (x ∈ l) → (x ∈ l → (i : ℕ) × (i < length l) × (getD l i d ≡ x)) → (i : ℕ) × (i < suc (length l)) × (getD (y ∷ l) i d ≡ x)
       go (inl e) ih = (0, omega arith, sym e)
-      go (inr k) ih = let r = ih k in let h : r .0 < length l = r .1 in (suc (r .0), omega arith, r .2)
+      go (inr k) ih =
+          let r = ih k in
+          let h : r .0 < length l = r .1 in
+          (suc (r .0), omega arith, r .2)

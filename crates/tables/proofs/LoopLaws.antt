@@ -43,7 +43,8 @@ bit-or x y = go (x % 2) (y % 2) (omega arith) (omega arith)
 pub has-or : (x y r : ℕ) → hasBit (bitOr x y) r ≡ (hasBit x r || hasBit y r)
 unfolding hasBit
 has-or x y r =
-    let e : bitOr (x / 2 ^ r) (y / 2 ^ r) % 2 ≡ max (x / 2 ^ r % 2) (y / 2 ^ r % 2) = rw (or-step (x / 2 ^ r) (y / 2 ^ r)) (let m = max (x / 2 ^ r % 2) (y / 2 ^ r % 2) in omega arith) in
+    let e : bitOr (x / 2 ^ r) (y / 2 ^ r) % 2 ≡ max (x / 2 ^ r % 2) (y / 2 ^ r % 2) =
+    rw (or-step (x / 2 ^ r) (y / 2 ^ r)) (let m = max (x / 2 ^ r % 2) (y / 2 ^ r % 2) in omega arith) in
     rw (or-shr x y r, e) (bit-or (x / 2 ^ r) (y / 2 ^ r))
 
 module _ (edge : ℕ → ℕ → Bool) (s : ℕ) where
@@ -74,7 +75,8 @@ module _ (edge : ℕ → ℕ → Bool) (s : ℕ) where
 -- ---- the next step, and the end
 
 module _ (rs : List Region) (k written : ℕ) where
-  pub order-next : nextRegion rs written < length rs → orderFrom (suc k) rs written ≡ nextRegion rs written ∷ orderFrom k rs (withBit written (nextRegion rs written))
+  pub order-next : nextRegion rs written < length rs
+      → orderFrom (suc k) rs written ≡ nextRegion rs written ∷ orderFrom k rs (withBit written (nextRegion rs written))
   unfolding orderFrom
   order-next h = rw (lt-ltb (nextRegion rs written) (length rs) h)
 

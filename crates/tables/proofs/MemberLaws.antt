@@ -39,7 +39,10 @@ module _ (e : Event) (m m′ : Name → Bool) where
 
   pub same-value : (r : Region) → ((n : Name) → n ∈ references r → m n ≡ m′ n) → belongs m e r ≡ belongs m′ e r
   same-value r h =
-      rw (same-shape (r .shape) (λ n k. h n (Memᴰ·append-right (parentNames (r .parent)) k)), same-parent (r .parent) (λ n k. h n (Memᴰ·append-left (operandNames (r .shape)) k)))
+      rw (
+        same-shape (r .shape) (λ n k. h n (Memᴰ·append-right (parentNames (r .parent)) k)),
+        same-parent (r .parent) (λ n k. h n (Memᴰ·append-left (operandNames (r .shape)) k)),
+      )
 
 -- ---- a round of the equations, at a region of the table
 
@@ -84,12 +87,14 @@ module _ (rs : List Region) (ok : Orderly rs) (e : Event) where
   rounds-obey r m =
       let x = region-of rs m in
       let s = along-order rs ok Settled (λ k y q i j a b. q i j (omega arith) (omega arith)) settle (x .0) (x .1) in
-      rw (← (x .2)) (s (length rs) (suc (length rs)) (omega arith) (omega arith) ∙ at-region e (rounds (length rs) rs e) (ok .distinct) (region-in rs (x .0) (x .1)))
+      rw (← (x .2))
+      (s (length rs) (suc (length rs)) (omega arith) (omega arith) ∙ at-region e (rounds (length rs) rs e) (ok .distinct) (region-in rs (x .0) (x .1)))
 
   -- two that obey the equations agree
   pub obey-agree : (m m′ : Name → Bool) → Obeys rs e m → Obeys rs e m′ → (r : Region) → r ∈ rs → m (r .name) ≡ m′ (r .name)
   obey-agree m m′ o o′ r i =
       let x = region-of rs i in
       rw (← (x .2)) (along-order rs ok (λ k y. m (called y) ≡ m′ (called y)) (λ k y q. q)
-      (λ k y l h. o (nthRegion rs y) (region-in rs y l) ∙ same-value e m m′ (nthRegion rs y) (λ n q. let p = referred y l n q in rw p (h n q)) ∙ sym (o′ (nthRegion rs y) (region-in rs y l)))
+      (λ k y l h. o (nthRegion rs y) (region-in rs y l) ∙ same-value e m m′ (nthRegion rs y) (λ n q. let p = referred y l n q in rw p (h n q))
+      ∙ sym (o′ (nthRegion rs y) (region-in rs y l)))
       (x .0) (x .1))

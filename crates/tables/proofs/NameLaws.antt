@@ -69,11 +69,13 @@ at-distinct (n ∷ ns) h = (
 pub different-distinct : (ns : List Name) → different ns ≡ true → Distinct ns
 unfolding different newName apart
 different-distinct ns e = at-distinct ns (λ j k h l q.
-    true≢false (sym (rw q (same-refl (getD ns k []))) ∙ not-true (same (getD ns j []) (getD ns k [])) (all-at (apart ns k) k (all-at (newName ns) (length ns) e k l) j h)))
+    true≢false (sym (rw q (same-refl (getD ns k [])))
+    ∙ not-true (same (getD ns j []) (getD ns k [])) (all-at (apart ns k) k (all-at (newName ns) (length ns) e k l) j h)))
 
 pub distinct-different : (ns : List Name) → Distinct ns → different ns ≡ true
 unfolding different newName apart
-distinct-different ns d = all-of (newName ns) (length ns) (λ k l. all-of (apart ns k) k (λ j h. rw (same-not (getD ns j []) (getD ns k []) (distinct-at ns d j k h l))))
+distinct-different ns d =
+    all-of (newName ns) (length ns) (λ k l. all-of (apart ns k) k (λ j h. rw (same-not (getD ns j []) (getD ns k []) (distinct-at ns d j k h l))))
 
 -- ---- the number of the region of a name
 

@@ -117,7 +117,10 @@ module _ (rs : List Region) where
       go : Dec (i < n) → (hasBit w n ≡ true) ⊎ (hasBit w n ≡ false) → (i < n → i ∈ leftList w n) → i ∈ leftList w (suc n)
       go (yes l) (inl b) ih = rw b (ih l)
       go (yes l) (inr b) ih = rw b (there (ih l))
-      go (no l) b ih = let q : i ≡ n = omega arith in let f : hasBit w n ≡ false = rw q at e in rw f (here q)
+      go (no l) b ih =
+          let q : i ≡ n = omega arith in
+          let f : hasBit w n ≡ false = rw q at e in
+          rw f (here q)
 
   left-in : (w n i : ℕ) → i ∈ leftList w n → (i < n) × (hasBit w i ≡ false)
   left-in w zero i m = absurd (List·Memᴰ·not-nil m)
@@ -125,10 +128,16 @@ module _ (rs : List Region) where
     where
       found : hasBit w n ≡ false → (i ≡ n) ⊎ (i ∈ leftList w n) → (i ∈ leftList w n → (i < n) × (hasBit w i ≡ false)) → (i < suc n) × (hasBit w i ≡ false)
       found b (inl q) ih = (omega arith, rw q b)
-      found b (inr k) ih = let r = ih k in let l : i < n = r .0 in (omega arith, r .1)
+      found b (inr k) ih =
+          let r = ih k in
+          let l : i < n = r .0 in
+          (omega arith, r .1)
 
       go : (hasBit w n ≡ true) ⊎ (hasBit w n ≡ false) → (i ∈ leftList w n → (i < n) × (hasBit w i ≡ false)) → (i < suc n) × (hasBit w i ≡ false)
-      go (inl b) ih = let r = ih (rw b at m) in let l : i < n = r .0 in (omega arith, r .1)
+      go (inl b) ih =
+          let r = ih (rw b at m) in
+          let l : i < n = r .0 in
+          (omega arith, r .1)
       go (inr b) ih = found b (List·Memᴰ·cases-cons (rw b at m)) ih
 
   module _ (ok : Orderly rs) where
@@ -177,7 +186,8 @@ module _ (rs : List Region) where
         go (inl e) = e
         go (inr e) =
             let z : left (λ j. 1) w i ≡ 0 = below-at (left (λ j. 1) w) (length rs) i (omega arith) l in
-            let o : left (λ j. 1) w i ≡ 1 = rw e in absurd (omega arith)
+            let o : left (λ j. 1) w i ≡ 1 = rw e in
+            absurd (omega arith)
 
     next-enough : (k w : ℕ) → Enough (suc k) w → nextRegion rs w < length rs → (hasBit w (nextRegion rs w) ≡ false) × Enough k (withBit w (nextRegion rs w))
     unfolding ready
@@ -196,7 +206,8 @@ module _ (rs : List Region) where
         r : ℕ
         r = nextRegion rs w
 
-        go : (ltb r (length rs) ≡ true) ⊎ (ltb r (length rs) ≡ false) → (Enough k (withBit w r) → hasBit (after (withBit w r) (orderFrom k rs (withBit w r))) i ≡ true)
+        go : (ltb r (length rs) ≡ true) ⊎ (ltb r (length rs) ≡ false)
+            → (Enough k (withBit w r) → hasBit (after (withBit w r) (orderFrom k rs (withBit w r))) i ≡ true)
             → hasBit (after w (cond (ltb r (length rs)) (r ∷ orderFrom k rs (withBit w r)) [])) i ≡ true
         go (inl e) ih = rw e (ih (next-enough k w h (ltb-true r (length rs) e) .1))
         go (inr e) ih = rw e (none-left w (ltb-false r (length rs) e) i l)
@@ -253,7 +264,8 @@ module _ (rs : List Region) where
           let xl : x < length rs = h .0 in
           let z : suc (length o) + k ≡ length o + suc k = omega arith in
           let new : Q (suc k) x = step k x xl (λ n m. q (numberOf rs n) (in-number rs n (ok .live (nthRegion rs x) (region-in rs x xl) n m)) (h .2 n m)) in
-          rw z (along-steps o (withBit w x) (suc k) (h .3) (λ s sl b. ⊎-elim (λ p. rw p new) (λ p. keep k s (q s sl p)) (with-cases w x s (omega arith) b)) r l e)
+          rw z
+          (along-steps o (withBit w x) (suc k) (h .3) (λ s sl b. ⊎-elim (λ p. rw p new) (λ p. keep k s (q s sl p)) (with-cases w x s (omega arith) b)) r l e)
 
       pub along-order : (r : ℕ) → r < length rs → Q (length rs) r
       along-order r l =

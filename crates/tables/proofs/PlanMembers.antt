@@ -141,7 +141,8 @@ module _ (rs : List Region) (ok : Orderly rs) (n : ℕ) (good : (r : Region) →
     next-right : Right (withBit w r) (cond (m (x .name)) (withBit bits r) bits)
     next-right = record { right = λ s l b. right′ s l b (passed-or-failed (eqb s r)); unset = λ s b. unset′ s b (passed-or-failed (eqb s r)) }
       where
-        right′ : (s : ℕ) → s < length rs → hasBit (withBit w r) s ≡ true → (eqb s r ≡ true) ⊎ (eqb s r ≡ false) → hasBit (cond (m (x .name)) (withBit bits r) bits) s ≡ m (nthRegion rs s .name)
+        right′ : (s : ℕ) → s < length rs → hasBit (withBit w r) s ≡ true → (eqb s r ≡ true) ⊎ (eqb s r ≡ false)
+            → hasBit (cond (m (x .name)) (withBit bits r) bits) s ≡ m (nthRegion rs s .name)
         right′ s l b (inl t) = let q = eqb-true s r t in rw q (own-bit (m (x .name)))
         right′ s l b (inr t) = other-bit (m (x .name)) s (eqb-false s r t) ∙ sets .right s l (sym (has-with-other w r small s (eqb-false s r t)) ∙ b)
 
@@ -157,11 +158,14 @@ module _ (rs : List Region) (ok : Orderly rs) (n : ℕ) (good : (r : Region) →
   steps-right [] before w bits h s = s
   steps-right (r ∷ o) before w bits h s =
       rw (
-        settled-on (length o) (before ++ (stepWords rs r ++ stepsWords rs o)) e bits (length before) r (length (before ++ stepWords rs r)) (m (nthRegion rs r .name))
-            (region-is rs r before (stepsWords rs o)) (next-is rs r before (stepsWords rs o)) (step-right w bits s r (h .0) (h .1) (h .2) before (stepsWords rs o)),
+        settled-on (length o) (before ++ (stepWords rs r ++ stepsWords rs o)) e bits (length before) r (length (before ++ stepWords rs r))
+            (m (nthRegion rs r .name))
+            (region-is rs r before (stepsWords rs o)) (next-is rs r before (stepsWords rs o))
+            (step-right w bits s r (h .0) (h .1) (h .2) before (stepsWords rs o)),
         ← (append-assoc before (stepWords rs r) (stepsWords rs o)),
       )
-      (steps-right o (before ++ stepWords rs r) (withBit w r) (cond (m (nthRegion rs r .name)) (withBit bits r) bits) (h .3) (next-right w bits s r (h .0) (h .1) (h .2)))
+      (steps-right o (before ++ stepWords rs r) (withBit w r) (cond (m (nthRegion rs r .name)) (withBit bits r) bits) (h .3)
+      (next-right w bits s r (h .0) (h .1) (h .2)))
 
   -- the plan's bit of region r is what the equations give its name
   pub bits-right : (r : ℕ) → r < length rs → hasBit (bitsOf (planWords n rs) e) r ≡ m (nthRegion rs r .name)
@@ -169,4 +173,5 @@ module _ (rs : List Region) (ok : Orderly rs) (n : ℕ) (good : (r : Region) →
   bits-right r l =
       let s = steps-right (order rs) (pos n ∷ pos (length rs) ∷ []) 0 0 (order-ordered rs ok)
       (record { right = λ i _ b. absurd (true≢false (sym b ∙ no-bit i)); unset = λ i b. b }) in
-      ap (λ (k : ℕ). hasBit (settled k (pos n ∷ pos (length rs) ∷ stepsWords rs (order rs)) e 0 2) r) (sym (order-length rs ok)) ∙ s .right r l (all-written rs ok r l)
+      ap (λ (k : ℕ). hasBit (settled k (pos n ∷ pos (length rs) ∷ stepsWords rs (order rs)) e 0 2) r) (sym (order-length rs ok))
+      ∙ s .right r l (all-written rs ok r l)

@@ -54,7 +54,8 @@ module _ (rs : List Region) (ok : Orderly rs) (n : ℕ) (good : (r : Region) →
   shape-length (or-of os) g = rw (length-map os (referenceWord rs), le-leb 2 (length os) (g .0), le-leb (length os) 63 (g .1))
   shape-length (not-of o) g = refl
 
-  module _ (set r : ℕ) (h : r < length rs) (new : hasBit set r ≡ false) (referred : (m : Name) → m ∈ references (nthRegion rs r) → isWritten rs set m ≡ true) where
+  module _ (set r : ℕ) (h : r < length rs) (new : hasBit set r ≡ false)
+      (referred : (m : Name) → m ∈ references (nthRegion rs r) → isWritten rs set m ≡ true) where
     abbrev x : Region
     x = nthRegion rs r
 
@@ -66,7 +67,8 @@ module _ (rs : List Region) (ok : Orderly rs) (n : ℕ) (good : (r : Region) →
     parent-good : (p : Option Name) → ((m : Name) → m ∈ parentNames p → m ∈ references x) → parentGood (length rs) set (parentWord rs p) ≡ true
     unfolding parentGood inRange number
     parent-good none i = refl
-    parent-good (some m) i = or-right (inRange (negsuc 0) (negsuc 0) (pos (numberOf rs m))) (earlier (length rs) set (numberOf rs m)) (set-earlier m (i m (here refl)))
+    parent-good (some m) i =
+        or-right (inRange (negsuc 0) (negsuc 0) (pos (numberOf rs m))) (earlier (length rs) set (numberOf rs m)) (set-earlier m (i m (here refl)))
 
     operands-good : (os : List Operand) → ((m : Name) → m ∈ map (λ (o : Operand). o .name) os → m ∈ references x)
         → (i : ℕ) → i < length (map (referenceWord rs) os) → operandWord (length rs) set (map (referenceWord rs) os) i ≡ true
@@ -105,20 +107,33 @@ module _ (rs : List Region) (ok : Orderly rs) (n : ℕ) (good : (r : Region) →
       step-good : stepForm p n (length rs) set (length before) ≡ Good r (length (before ++ stepWords rs r))
       unfolding stepForm headRun bodyRun
       step-good =
-          let a : firstBad (headWord p (length rs) set (length before)) 0 4 ≡ 4 = first-none (headWord p (length rs) set (length before)) 0 4 (λ j _ b. head-good j b) in
+          let a : firstBad (headWord p (length rs) set (length before)) 0 4 ≡ 4 =
+          first-none (headWord p (length rs) set (length before)) 0 4 (λ j _ b. head-good j b) in
           let b : firstBad (bodyWord (shapeKind (x .shape)) n (length rs) set body) 0 (length body) ≡ length body =
           first-none (bodyWord (shapeKind (x .shape)) n (length rs) set body) 0 (length body)
           (λ j _ l. body-good (x .shape) shape-good (λ m i. Memᴰ·append-right (parentNames (x .parent)) i) j (omega arith)) ∙ omega arith in
-          rw (a, kind-is rs r before rest, body-is rs r before rest, b, length-is rs r before rest, le-ltb (length body) (length body) (omega arith), region-is rs r before rest, next-is rs r before rest)
+          rw (
+            a,
+            kind-is rs r before rest,
+            body-is rs r before rest,
+            b,
+            length-is rs r before rest,
+            le-ltb (length body) (length body) (omega arith),
+            region-is rs r before rest,
+            next-is rs r before rest,
+          )
 
   -- ---- all steps
 
-  steps-pass : (o : List ℕ) (before : List ℤ) (set : ℕ) → Ordered rs set o → stepsForm (length o) (before ++ stepsWords rs o) n (length rs) set (length before) ≡ passed
+  steps-pass : (o : List ℕ) (before : List ℤ) (set : ℕ) → Ordered rs set o
+      → stepsForm (length o) (before ++ stepsWords rs o) n (length rs) set (length before) ≡ passed
   unfolding stepsForm
   steps-pass [] before set h = rw (le-ltb (length before) (length (before ++ [])) (simp length-append (omega arith)))
   steps-pass (r ∷ o) before set h =
-      steps-on (length o) _ n (length rs) set (length before) r (length (before ++ stepWords rs r)) (step-good set r (h .0) (h .1) (h .2) before (stepsWords rs o))
-      ∙ ap (λ (p : List ℤ). stepsForm (length o) p n (length rs) (withBit set r) (length (before ++ stepWords rs r))) (sym (append-assoc before (stepWords rs r) (stepsWords rs o)))
+      steps-on (length o) _ n (length rs) set (length before) r (length (before ++ stepWords rs r))
+      (step-good set r (h .0) (h .1) (h .2) before (stepsWords rs o))
+      ∙ ap (λ (p : List ℤ). stepsForm (length o) p n (length rs) (withBit set r) (length (before ++ stepWords rs r)))
+      (sym (append-assoc before (stepWords rs r) (stepsWords rs o)))
       ∙ steps-pass o (before ++ stepWords rs r) (withBit set r) (h .3)
 
   pub plan-reads : 1 ≤ n → n ≤ 8 → length (planWords n rs) ≤ 4096 → readForm (planWords n rs) ≡ passed
@@ -127,4 +142,9 @@ module _ (rs : List Region) (ok : Orderly rs) (n : ℕ) (good : (r : Region) →
       let s : stepsForm (length rs) (pos n ∷ pos (length rs) ∷ stepsWords rs (order rs)) n (length rs) 0 2 ≡ passed =
       ap (λ (k : ℕ). stepsForm k (pos n ∷ pos (length rs) ∷ stepsWords rs (order rs)) n (length rs) 0 2) (sym (order-length rs ok))
       ∙ steps-pass (order rs) (pos n ∷ pos (length rs) ∷ []) 0 (order-ordered rs ok) in
-      rw (le-ltb 4096 (length (pos n ∷ pos (length rs) ∷ stepsWords rs (order rs))) l, spans-true 1 8 n a b, spans-true 0 64 (length rs) (omega arith) (ok .few)) s
+      rw (
+        le-ltb 4096 (length (pos n ∷ pos (length rs) ∷ stepsWords rs (order rs))) l,
+        spans-true 1 8 n a b,
+        spans-true 0 64 (length rs) (omega arith) (ok .few),
+      )
+      s

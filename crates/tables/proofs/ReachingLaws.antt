@@ -36,11 +36,13 @@ module _ (edge : ℕ → ℕ → Bool) where
   test-reaches k zero l a b h e = refers (h, e)
   test-reaches k (suc s) l a b h e = go (test-reaches k s (omega arith)) (or-passes (reachesBy edge s a b) (reachesBy edge s a s && reachesBy edge s s b) e)
     where
-      go : ((x y : ℕ) → y < k → reachesBy edge s x y ≡ true → Reaches (Edge k) x y) → (reachesBy edge s a b ≡ true) ⊎ ((reachesBy edge s a s && reachesBy edge s s b) ≡ true)
+      go : ((x y : ℕ) → y < k → reachesBy edge s x y ≡ true → Reaches (Edge k) x y)
+          → (reachesBy edge s a b ≡ true) ⊎ ((reachesBy edge s a s && reachesBy edge s s b) ≡ true)
           → Reaches (Edge k) a b
       go ih (inl u) = ih a b h u
       go ih (inr u) =
-          join (ih a s (omega arith) (and-left (reachesBy edge s a s) (reachesBy edge s s b) u)) (ih s b h (and-right (reachesBy edge s a s) (reachesBy edge s s b) u))
+          join (ih a s (omega arith) (and-left (reachesBy edge s a s) (reachesBy edge s s b) u))
+          (ih s b h (and-right (reachesBy edge s a s) (reachesBy edge s s b) u))
 
   -- one step needs no node between
   direct : (s a b : ℕ) → edge a b ≡ true → reachesBy edge s a b ≡ true
@@ -53,7 +55,8 @@ module _ (edge : ℕ → ℕ → Bool) where
     unfolding reachesBy
     past a b e = go (or-passes (reachesBy edge s a b) (reachesBy edge s a s && reachesBy edge s s b) e)
       where
-        go : (reachesBy edge s a b ≡ true) ⊎ ((reachesBy edge s a s && reachesBy edge s s b) ≡ true) → (reachesBy edge s a b ≡ true) ⊎ ((reachesBy edge s a s ≡ true) × (reachesBy edge s s b ≡ true))
+        go : (reachesBy edge s a b ≡ true) ⊎ ((reachesBy edge s a s && reachesBy edge s s b) ≡ true)
+            → (reachesBy edge s a b ≡ true) ⊎ ((reachesBy edge s a s ≡ true) × (reachesBy edge s s b ≡ true))
         go (inl u) = inl u
         go (inr u) = inr (and-left (reachesBy edge s a s) (reachesBy edge s s b) u, and-right (reachesBy edge s a s) (reachesBy edge s s b) u)
 
@@ -87,7 +90,8 @@ module _ (edge : ℕ → ℕ → Bool) where
   meet-at zero m h a b e f = absurd (omega arith)
   meet-at (suc s) m h a b e f = go (decLt m s) (meet-at s m)
     where
-      go : Dec (m < s) → (m < s → (x y : ℕ) → reachesBy edge s x m ≡ true → reachesBy edge s m y ≡ true → reachesBy edge s x y ≡ true) → reachesBy edge (suc s) a b ≡ true
+      go : Dec (m < s) → (m < s → (x y : ℕ) → reachesBy edge s x m ≡ true → reachesBy edge s m y ≡ true → reachesBy edge s x y ≡ true)
+          → reachesBy edge (suc s) a b ≡ true
       go (yes l) ih = joined s m (ih l) a b e f
       go (no l) ih = let q : m ≡ s = omega arith in by-way s a b (up-to s a (rw q at e)) (onward s b (rw q at f))
 
@@ -115,7 +119,9 @@ module _ (t : List Gate) where
   to-numbers : {g h : Gate} → Reaches (Refers t) g h → (i j : ℕ) → nthGate t i ≡ g → j < length t → nthGate t j ≡ h → Reaches (Edge (refersAt t) (length t)) i j
   unfolding refersAt
   to-numbers (refers e) i j p l q = refers {a = i} {b = j} (l, rw (p, q) (e .1))
-  to-numbers (refers-on {b = b} e r) i j p l q = let m = gate-index (e .0) in refers-on {a = i} {b = m .0} (m .1, rw (p, m .2) (e .1)) (to-numbers r (m .0) j (m .2) l q)
+  to-numbers (refers-on {b = b} e r) i j p l q =
+      let m = gate-index (e .0) in
+      refers-on {a = i} {b = m .0} (m .1, rw (p, m .2) (e .1)) (to-numbers r (m .0) j (m .2) l q)
 
   ends-in : {g h : Gate} → Reaches (Refers t) g h → h ∈ t
   ends-in (refers e) = e .0

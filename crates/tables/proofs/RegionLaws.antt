@@ -38,10 +38,14 @@ module _ (t : List Gate) (i : ℕ) (h : i < length t) where
   up-to-next = take-suc t i noGate h
 
   pub regions-next : regions (upTo t i) ≡ regions (take i t) ++ gateRegions (nthGate t i)
-  regions-next = ap regions up-to-next ∙ regions-append (take i t) (nthGate t i ∷ []) ∙ ap (λ (l : List Region). regions (take i t) ++ l) (append-nil (gateRegions (nthGate t i)))
+  regions-next =
+      ap regions up-to-next
+      ∙ regions-append (take i t) (nthGate t i ∷ [])
+      ∙ ap (λ (l : List Region). regions (take i t) ++ l) (append-nil (gateRegions (nthGate t i)))
 
   pub given-next : given (upTo t i) ≡ given (take i t) ++ ownNames (nthGate t i)
-  given-next = ap given up-to-next ∙ given-append (take i t) (nthGate t i ∷ []) ∙ ap (λ (l : List Name). given (take i t) ++ l) (append-nil (ownNames (nthGate t i)))
+  given-next =
+      ap given up-to-next ∙ given-append (take i t) (nthGate t i ∷ []) ∙ ap (λ (l : List Name). given (take i t) ++ l) (append-nil (ownNames (nthGate t i)))
 
   -- ---- the regions of gate i: their numbers follow those of the gates before it
 
@@ -49,7 +53,8 @@ module _ (t : List Gate) (i : ℕ) (h : i < length t) where
   unfolding nthGate
   regions-cut = ap regions (split-at t i noGate h) ∙ regions-append (take i t) (getD t i noGate ∷ drop (suc i) t)
 
-  pub region-number : (q : ℕ) → q < length (gateRegions (nthGate t i)) → nthRegion (regions t) (length (regions (take i t)) + q) ≡ getD (gateRegions (nthGate t i)) q noRegion
+  pub region-number : (q : ℕ) → q < length (gateRegions (nthGate t i))
+      → nthRegion (regions t) (length (regions (take i t)) + q) ≡ getD (gateRegions (nthGate t i)) q noRegion
   unfolding nthRegion
   region-number q l =
       ap (λ (rs : List Region). getD rs (length (regions (take i t)) + q) noRegion) regions-cut
@@ -66,7 +71,8 @@ module _ (t : List Gate) (i : ℕ) (h : i < length t) where
   -- a name is that of a region of gate i exactly when its number is one of those
   pub named-by-number : Distinct (names (regions t)) → (n : Name)
       → isIn (names (gateRegions (nthGate t i))) n
-      ≡ (leb (length (regions (take i t))) (numberOf (regions t) n) && ltb (numberOf (regions t) n) (length (regions (take i t)) + length (gateRegions (nthGate t i))))
+      ≡ (leb (length (regions (take i t))) (numberOf (regions t) n)
+      && ltb (numberOf (regions t) n) (length (regions (take i t)) + length (gateRegions (nthGate t i))))
   named-by-number d n = go (passed-or-failed (isIn (names (gateRegions (nthGate t i))) n))
     where
       a : ℕ
@@ -95,12 +101,19 @@ module _ (t : List Gate) (i : ℕ) (h : i < length t) where
           let f = regions-fit in
           let z : a + (k - a) ≡ k = omega arith in
           let c : n ≡ getD (gateRegions (nthGate t i)) (k - a) noRegion .name =
-          number-name (regions t) n (omega arith) ∙ ap (λ (j : ℕ). nthRegion (regions t) j .name) (sym z) ∙ ap (λ (r : Region). r .name) (region-number (k - a) (omega arith)) in
+          number-name (regions t) n (omega arith)
+          ∙ ap (λ (j : ℕ). nthRegion (regions t) j .name) (sym z)
+          ∙ ap (λ (r : Region). r .name) (region-number (k - a) (omega arith)) in
           in-list (Memᴰ·cast c (map-in (λ (r : Region). r .name) (at-in noRegion (gateRegions (nthGate t i)) (k - a) (omega arith))))
 
-      go : (isIn (names (gateRegions (nthGate t i))) n ≡ true) ⊎ (isIn (names (gateRegions (nthGate t i))) n ≡ false) → isIn (names (gateRegions (nthGate t i))) n ≡ (leb a k && ltb k (a + m))
+      go : (isIn (names (gateRegions (nthGate t i))) n ≡ true) ⊎ (isIn (names (gateRegions (nthGate t i))) n ≡ false)
+          → isIn (names (gateRegions (nthGate t i))) n ≡ (leb a k && ltb k (a + m))
       go (inl e) = let b = inside e in rw (e, le-leb a k (b .0), lt-ltb k (a + m) (b .1))
-      go (inr e) = e ∙ sym (unless (leb a k && ltb k (a + m)) (λ b. true≢false (sym (outside (leb-true a k (and-left (leb a k) (ltb k (a + m)) b), ltb-true k (a + m) (and-right (leb a k) (ltb k (a + m)) b))) ∙ e)))
+      go (inr e) =
+          e
+          ∙ sym (unless (leb a k && ltb k (a + m))
+          (λ b.
+          true≢false (sym (outside (leb-true a k (and-left (leb a k) (ltb k (a + m)) b), ltb-true k (a + m) (and-right (leb a k) (ltb k (a + m)) b))) ∙ e)))
 
 -- ---- names after distinct ones are distinct from them when each is new
 
@@ -109,7 +122,9 @@ unfolding different newName apart
 different-append l k d = go (passed-or-failed (all (λ j. newName (l ++ k) (length l + j)) (length k)))
   where
     old : (j : ℕ) → j < length l → newName (l ++ k) j ≡ true
-    old j h = all-of (apart (l ++ k) j) j (λ i u. rw (List·getD-append l k [] i (omega arith), List·getD-append l k [] j h) (all-at (apart l j) j (all-at (newName l) (length l) d j h) i u))
+    old j h =
+        all-of (apart (l ++ k) j) j
+        (λ i u. rw (List·getD-append l k [] i (omega arith), List·getD-append l k [] j h) (all-at (apart l j) j (all-at (newName l) (length l) d j h) i u))
 
     new : all (λ j. newName (l ++ k) (length l + j)) (length k) ≡ true → (j : ℕ) → j < length (l ++ k) → newName (l ++ k) j ≡ true
     new e j h = part (decLt j (length l))
@@ -127,4 +142,6 @@ different-append l k d = go (passed-or-failed (all (λ j. newName (l ++ k) (leng
     go : (all (λ j. newName (l ++ k) (length l + j)) (length k) ≡ true) ⊎ (all (λ j. newName (l ++ k) (length l + j)) (length k) ≡ false)
         → all (newName (l ++ k)) (length (l ++ k)) ≡ all (λ j. newName (l ++ k) (length l + j)) (length k)
     go (inl e) = all-of (newName (l ++ k)) (length (l ++ k)) (new e) ∙ sym e
-    go (inr e) = unless (all (newName (l ++ k)) (length (l ++ k))) (λ b. true≢false (sym (all-of (λ j. newName (l ++ k) (length l + j)) (length k) (later b)) ∙ e)) ∙ sym e
+    go (inr e) =
+        unless (all (newName (l ++ k)) (length (l ++ k))) (λ b. true≢false (sym (all-of (λ j. newName (l ++ k) (length l + j)) (length k) (later b)) ∙ e))
+        ∙ sym e

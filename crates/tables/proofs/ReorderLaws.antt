@@ -123,7 +123,11 @@ module _ (slice : ℕ) (text : List ℕ) (a : Accepted slice text) (ks : List (L
   pub reordered-accepted : Accepted slice again
   unfolding reordered
   reordered-accepted =
-      let s = a .short in let l = same-length in let f = a .plan-fits in let g = a .slice-fits in let z = same-size in
+      let s = a .short in
+      let l = same-length in
+      let f = a .plan-fits in
+      let g = a .slice-fits in
+      let z = same-size in
       record {
         short = omega arith;
         ends = unlines-ends (getD (lines text) 0 []) ks;

@@ -36,14 +36,17 @@ module _ (t : List Gate) (i : ℕ) where
   fewer : length (regions (upTo t i)) ≤ length (regions t)
   unfolding upTo
   fewer =
-      let e : regions t ≡ regions (take (suc i) t) ++ regions (drop (suc i) t) = ap regions (sym (take-append-drop (suc i) t)) ∙ regions-append (take (suc i) t) (drop (suc i) t) in
-      let l : length (regions t) ≡ length (regions (take (suc i) t)) + length (regions (drop (suc i) t)) = ap length e ∙ length-append (regions (take (suc i) t)) (regions (drop (suc i) t)) in
+      let e : regions t ≡ regions (take (suc i) t) ++ regions (drop (suc i) t) =
+      ap regions (sym (take-append-drop (suc i) t)) ∙ regions-append (take (suc i) t) (drop (suc i) t) in
+      let l : length (regions t) ≡ length (regions (take (suc i) t)) + length (regions (drop (suc i) t)) =
+      ap length e ∙ length-append (regions (take (suc i) t)) (regions (drop (suc i) t)) in
       omega arith
 
   still-distinct : Distinct (given t) → Distinct (given (upTo t i))
   unfolding upTo
   still-distinct d =
-      let e : given t ≡ given (take (suc i) t) ++ given (drop (suc i) t) = ap given (sym (take-append-drop (suc i) t)) ∙ given-append (take (suc i) t) (drop (suc i) t) in
+      let e : given t ≡ given (take (suc i) t) ++ given (drop (suc i) t) =
+      ap given (sym (take-append-drop (suc i) t)) ∙ given-append (take (suc i) t) (drop (suc i) t) in
       split (given (take (suc i) t)) (given (drop (suc i) t)) (rw e at d) .0
 
 -- ---- each rule is one refusal's absence

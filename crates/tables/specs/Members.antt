@@ -35,7 +35,8 @@ module _ (m : Name → Bool) where
 abbrev pub Obeys : List Region → Event → (Name → Bool) → Type 0
 Obeys rs e m = (r : Region) → r ∈ rs → m (r .name) ≡ belongs m e r
 
--- ---- the members: as many rounds of the equations as there are regions; `member-obeys` and `member-only` in proofs/ say that they obey them, and nothing else does
+-- ---- the members: as many rounds of the equations as there are regions; `member-obeys` and `member-only` in proofs/ say that they obey
+-- them, and nothing else does
 
 abbrev pub round : List Region → Event → (Name → Bool) → Name → Bool
 round rs e m n = someOf (λ (r : Region). same n (r .name) && belongs m e r) rs

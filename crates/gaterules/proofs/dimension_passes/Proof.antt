@@ -1,3 +1,4 @@
+-- `dimension_passes`: the contracts of the calls, put together.
 use Rattle.gates.specs.Rules.{dimensionPasses}
 use borrow.Author.Needs.{needs}
 use Rattle.gaterules.proofs.dimension_passes.Statement.{statement}
@@ -5,7 +6,9 @@ use Rattle.gaterules.proofs.dimension_passes.Tie as tie
 
 returns : tie.Need-returns
 unfolding dimensionPasses
-returns c = rw (c .repeated .ensures, c .before .name-count .ensures, c .before .before .dimension-of .ensures, c .before .before .before .field .ensures)
+returns c =
+    let after-field = c .before .before .before in
+    rw (c .repeated .ensures, c .before .name-count .ensures, c .before .before .dimension-of .ensures, after-field .field .ensures)
 
 pub dimension-passes-spec : {M : Type 1} → statement M
 dimension-passes-spec =

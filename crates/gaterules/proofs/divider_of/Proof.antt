@@ -1,3 +1,4 @@
+-- `divider_of`: the last divider that begins at k or before, of those below t.
 use borrow.Author.Needs.{needs}
 use native.Mathlib.Omega.{arith}
 use native.Mathlib.Numerals.{add-one}
@@ -22,11 +23,21 @@ loop-holds : tie.Need-loop-holds Inv-loop μ-loop
 loop-holds c = (search needs, refl)
 
 loop-again : tie.Need-loop-again Inv-loop μ-loop
-loop-again c = let e : min (c .before .before .before .loop .t) 3 ≡ c .before .before .before .loop .t = omega arith in (search needs, rw (add-one, c .pick .ensures, c .before .divider-at .ensures .0, e, c .before .before .before .loop .inv .1))
+loop-again c =
+    let loop = c .before .before .before .loop in
+    let e : min (loop .t) 3 ≡ loop .t = omega arith in
+    (search needs, rw (add-one, c .pick .ensures, c .before .divider-at .ensures .0, e, loop .inv .1))
 
 returns : tie.Need-returns Inv-loop μ-loop
 unfolding dividerOf
-returns c = let e : c .before .loop .t ≡ c .before .before .divider-count .result = omega arith in (rw (c .before .loop .inv .1, e, c .before .before .divider-count .ensures .0), omega (arith, last-below (λ i. leb (dividerAt (fields (c .before .before .before .before .args .line .now)) i) (c .before .before .before .before .args .k)) (c .before .loop .t)))
+returns c =
+    let after-divider-count = c .before .before in
+    let loop = c .before .loop in
+    let args = after-divider-count .before .before .args in
+    let e : loop .t ≡ after-divider-count .divider-count .result = omega arith in (
+      rw (loop .inv .1, e, after-divider-count .divider-count .ensures .0),
+      omega (arith, last-below (λ i. leb (dividerAt (fields (args .line .now)) i) (args .k)) (loop .t)),
+    )
 
 pub divider-of-spec : {M : Type 1} → statement M
 divider-of-spec =

@@ -1,3 +1,4 @@
+-- `divider_rule`: by the place in the divider.
 use Rattle.gates.specs.Rules.{dividerRule}
 use Rattle.integers.proofs.Rules.{tests}
 use Rattle.gaterules.proofs.divider_rule.Statement.{statement}

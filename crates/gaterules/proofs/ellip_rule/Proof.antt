@@ -1,3 +1,4 @@
+-- `ellip_rule`: by the place in the body.
 use Rattle.gates.specs.Rules.{ellipRule}
 use Rattle.integers.proofs.Rules.{tests}
 use Rattle.gaterules.proofs.ellip_rule.Statement.{statement}

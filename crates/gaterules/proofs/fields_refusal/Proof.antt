@@ -1,3 +1,4 @@
+-- `fields_refusal`: the least refusal of the fields below k.
 use borrow.Author.Needs.{needs}
 use native.Mathlib.Omega.{arith}
 use native.Mathlib.Numerals.{add-one}
@@ -24,7 +25,11 @@ loop-again c = (search needs, rw (add-one, c .least-of .ensures, c .before .fiel
 
 returns : tie.Need-returns Inv-loop μ-loop
 unfolding fieldsRefusal
-returns c = let e : c .before .loop .k ≡ c .before .before .field-count .result = omega arith in rw (c .before .loop .inv .1, e, c .before .before .field-count .ensures)
+returns c =
+    let after-field-count = c .before .before in
+    let loop = c .before .loop in
+    let e : loop .k ≡ after-field-count .field-count .result = omega arith in
+    rw (loop .inv .1, e, after-field-count .field-count .ensures)
 
 pub fields-refusal-spec : {M : Type 1} → statement M
 fields-refusal-spec =

@@ -1,3 +1,4 @@
+-- `number_refusal`: no number, or one that is held to the bounds.
 use mir.Syntax.{w32}
 use mir.Val.{toZ, ofZ}
 use mir.ValLaws.{toZ-ofZ}
@@ -11,7 +12,13 @@ returns : tie.Need-returns
 returns c = number-bad _ _ _ (sym (c .before .before .read-number .ensures) ∙ c .enum-told .given .1)
 
 returns-2 : tie.Need-returns-2
-returns-2 c = let e : toZ w32 (ofZ w32 (c .before .before .v .given .0 .0)) ≡ c .before .before .v .given .0 .0 = search needs in rw (c .unless .ensures, toZ-ofZ w32 _ (c .before .before .before .before .before .before .fits .lo), toZ-ofZ w32 _ (c .before .before .before .before .before .before .fits .hi), e) (number-value _ _ _ _ (c .before .before .before .before .before .before .pre .0) (c .before .before .before .before .before .before .pre .1) (sym (c .before .before .before .before .read-number .ensures) ∙ c .before .before .v .given .1))
+returns-2 c =
+    let after-read-number = c .before .before .before .before in
+    let entry = after-read-number .before .before in
+    let v = c .before .before .v in
+    let e : toZ w32 (ofZ w32 (v .given .0 .0)) ≡ v .given .0 .0 = search needs in
+    rw (c .unless .ensures, toZ-ofZ w32 _ (entry .fits .lo), toZ-ofZ w32 _ (entry .fits .hi), e)
+    (number-value _ _ _ _ (entry .pre .0) (entry .pre .1) (sym (after-read-number .read-number .ensures) ∙ v .given .1))
 
 pub number-refusal-spec : {M : Type 1} → statement M
 number-refusal-spec =

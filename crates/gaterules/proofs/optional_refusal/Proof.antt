@@ -1,3 +1,4 @@
+-- `optional_refusal`: `*` passes; any other field is held to the bounds.
 use Rattle.gates.specs.Rules.{optionalRefusal}
 use borrow.Author.Needs.{needs}
 use Rattle.gaterules.proofs.optional_refusal.Statement.{statement}

@@ -1,3 +1,4 @@
+-- `poly_rule`: by the place in the body.
 use Rattle.gates.specs.Rules.{polyRule}
 use Rattle.integers.proofs.Rules.{tests}
 use Rattle.gaterules.proofs.poly_rule.Statement.{statement}

@@ -1,3 +1,4 @@
+-- `quad_rule`: by the part of the line: before the dividers, in a divider, in a quadrant.
 use native.Mathlib.Omega.{arith}
 use borrow.Author.Tests.{lt-ltb, le-ltb, lt-leb, eq-eqb, ne-eqb}
 use mathlib.Core.Path.{_≡_}
@@ -14,15 +15,48 @@ returns c = search tests
 
 returns-2 : tie.Need-returns-2
 unfolding quadRule
-returns-2 c = let e : min (c .before .before .before .divider-of .result) 3 ≡ c .before .before .before .divider-of .result = omega arith in rw (lt-leb (c .before .before .before .before .before .before .before .before .args .k) 3 (c .before .before .before .before .before .before .if1 .left), ← c .before .before .before .before .before .quadrants-at .ensures .0, lt-ltb (c .before .before .before .before .before .before .before .before .args .k) (c .before .before .before .before .before .quadrants-at .result) (c .before .before .before .before .if2 .taken), c .divider-rule .ensures, c .before .minus .ensures, c .before .before .divider-at .ensures .0, e, c .before .before .before .divider-of .ensures .0)
+returns-2 c =
+    let after-divider-of = c .before .before .before in
+    let after-quadrants-at = after-divider-of .before .before in
+    let divider-of = after-divider-of .divider-of in
+    let args = after-quadrants-at .before .before .before .args in
+    let e : min (divider-of .result) 3 ≡ divider-of .result = omega arith in
+    rw (
+      lt-leb (args .k) 3 (after-quadrants-at .before .if1 .left),
+      ← after-quadrants-at .quadrants-at .ensures .0,
+      lt-ltb (args .k) (after-quadrants-at .quadrants-at .result) (after-divider-of .before .if2 .taken),
+      c .divider-rule .ensures,
+      c .before .minus .ensures,
+      c .before .before .divider-at .ensures .0,
+      e,
+      divider-of .ensures .0,
+    )
 
 returns-3 : tie.Need-returns-3
 unfolding quadRule
-returns-3 c = rw (lt-leb (c .before .before .before .before .before .before .args .k) 3 (c .before .before .before .before .if1 .left), ← c .before .before .before .quadrants-at .ensures .0, ← c .before .divider-count .ensures .0, le-ltb (c .before .before .before .before .before .before .args .k) (c .before .before .before .quadrants-at .result) (c .before .before .if2 .left), eq-eqb _ _ (c .if3 .taken))
+returns-3 c =
+    let after-quadrants-at = c .before .before .before in
+    let args = after-quadrants-at .before .before .before .args in
+    rw (
+      lt-leb (args .k) 3 (after-quadrants-at .before .if1 .left),
+      ← after-quadrants-at .quadrants-at .ensures .0,
+      ← c .before .divider-count .ensures .0,
+      le-ltb (args .k) (after-quadrants-at .quadrants-at .result) (c .before .before .if2 .left),
+      eq-eqb _ _ (c .if3 .taken),
+    )
 
 returns-4 : tie.Need-returns-4
 unfolding quadRule
-returns-4 c = rw (lt-leb (c .before .before .before .before .before .before .args .k) 3 (c .before .before .before .before .if1 .left), ← c .before .before .before .quadrants-at .ensures .0, ← c .before .divider-count .ensures .0, le-ltb (c .before .before .before .before .before .before .args .k) (c .before .before .before .quadrants-at .result) (c .before .before .if2 .left), ne-eqb _ _ (c .if3 .left))
+returns-4 c =
+    let after-quadrants-at = c .before .before .before in
+    let args = after-quadrants-at .before .before .before .args in
+    rw (
+      lt-leb (args .k) 3 (after-quadrants-at .before .if1 .left),
+      ← after-quadrants-at .quadrants-at .ensures .0,
+      ← c .before .divider-count .ensures .0,
+      le-ltb (args .k) (after-quadrants-at .quadrants-at .result) (c .before .before .if2 .left),
+      ne-eqb _ _ (c .if3 .left),
+    )
 
 pub quad-rule-spec : {M : Type 1} → statement M
 quad-rule-spec =

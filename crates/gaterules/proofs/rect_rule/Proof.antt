@@ -1,3 +1,4 @@
+-- `rect_rule`: by the place in its three fields.
 use Rattle.gates.specs.Rules.{rectRule}
 use Rattle.integers.proofs.Rules.{tests}
 use Rattle.gaterules.proofs.rect_rule.Statement.{statement}

@@ -29,7 +29,15 @@ is-within-requires : tie.Need-is-within-requires Inv-loop μ-loop
 is-within-requires c κs = search needs
 
 returns : tie.Need-returns Inv-loop μ-loop
-returns c = sym (c .before .before .before .before .before .before .before .loop .inv .1 ∙ first-stop (held (c .before .before .before .before .before .before .before .before .args .t1 .bits) (c .before .before .before .before .before .before .before .before .args .set)) (c .before .before .before .before .before .before .before .before .args .n) (c .before .before .before .before .before .before .before .loop .r) (c .before .before .before .before .before .before .loop-test .taken) (held-not (c .before .before .before .before .before .before .before .before .args .t1 .bits) (c .before .before .before .before .before .before .before .before .args .set) (c .before .before .before .before .before .before .before .loop .r) _ _ _ (c .before .before .before .row-at .ensures) (c .before .before .has-bit .ensures) (c .before .is-within .ensures) (c .if1 .taken)))
+returns c =
+    let after-row-at = c .before .before .before in
+    let at-test = after-row-at .before .before .before in
+    let loop = at-test .before .loop in
+    let args = at-test .before .before .args in
+    sym (loop .inv .1
+    ∙ first-stop (held (args .t1 .bits) (args .set)) (args .n) (loop .r) (at-test .loop-test .taken)
+    (held-not (args .t1 .bits) (args .set) (loop .r) _ _ _ (after-row-at .row-at .ensures) (c .before .before .has-bit .ensures) (c .before .is-within .ensures)
+    (c .if1 .taken)))
 
 add-r : tie.Need-add-r Inv-loop μ-loop
 add-r c = search needs
@@ -38,10 +46,23 @@ loop-less : tie.Need-loop-less Inv-loop μ-loop
 loop-less c = search needs
 
 loop-again : tie.Need-loop-again Inv-loop μ-loop
-loop-again c = (search needs, c .before .before .before .before .before .before .before .loop .inv .1 ∙ first-more (held (c .before .before .before .before .before .before .before .before .args .t1 .bits) (c .before .before .before .before .before .before .before .before .args .set)) (c .before .before .before .before .before .before .before .before .args .n) (c .before .before .before .before .before .before .before .loop .r) (c .before .before .before .before .before .before .loop-test .taken) (held-still (c .before .before .before .before .before .before .before .before .args .t1 .bits) (c .before .before .before .before .before .before .before .before .args .set) (c .before .before .before .before .before .before .before .loop .r) _ _ _ (c .before .before .before .row-at .ensures) (c .before .before .has-bit .ensures) (c .before .is-within .ensures) (c .if1 .left)))
+loop-again c =
+    let after-row-at = c .before .before .before in
+    let at-test = after-row-at .before .before .before in
+    let loop = at-test .before .loop in
+    let args = at-test .before .before .args in (
+      search needs,
+      loop .inv .1
+          ∙ first-more (held (args .t1 .bits) (args .set)) (args .n) (loop .r) (at-test .loop-test .taken)
+          (held-still (args .t1 .bits) (args .set) (loop .r) _ _ _ (after-row-at .row-at .ensures) (c .before .before .has-bit .ensures)
+          (c .before .is-within .ensures) (c .if1 .left)),
+    )
 
 returns-2 : tie.Need-returns-2 Inv-loop μ-loop
-returns-2 c = sym (c .before .loop .inv .1 ∙ first-end (held (c .before .before .args .t1 .bits) (c .before .before .args .set)) (c .before .before .args .n) (c .before .loop .r) (c .loop-test .left))
+returns-2 c =
+    let loop = c .before .loop in
+    let args = c .before .before .args in
+    sym (loop .inv .1 ∙ first-end (held (args .t1 .bits) (args .set)) (args .n) (loop .r) (c .loop-test .left))
 
 pub next-row-spec : {M : Type 1} → statement M
 next-row-spec =

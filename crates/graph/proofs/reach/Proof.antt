@@ -30,10 +30,25 @@ loop-less : tie.Need-loop-less Inv-loop μ-loop
 loop-less c = search needs
 
 loop-again : tie.Need-loop-again Inv-loop μ-loop
-loop-again c = (search needs, c .before .before .before .loop .inv .1, rw (c .round .ensures) (round-length (c .before .before .before .loop .r .bits) (c .before .before .before .loop .s) ∙ c .before .before .before .loop .inv .2), rw (c .round .ensures) (round-next (c .before .before .before .before .before .args .rows .bits) (c .before .before .before .loop .r .bits) (c .before .before .before .loop .s) (c .before .before .before .loop .inv .2 ∙ sym (c .before .before .before .loop .inv .1)) (c .before .before .before .loop .inv .3)))
+loop-again c =
+    let at-loop = c .before .before .before in
+    let loop = at-loop .loop in (
+      search needs,
+      loop .inv .1,
+      rw (c .round .ensures) (round-length (loop .r .bits) (loop .s) ∙ loop .inv .2),
+      rw (c .round .ensures)
+          (round-next (at-loop .before .before .args .rows .bits) (loop .r .bits) (loop .s) (loop .inv .2 ∙ sym (loop .inv .1)) (loop .inv .3)),
+    )
 
 returns : tie.Need-returns Inv-loop μ-loop
-returns c = let h = c .loop-test .left in let i = c .before .loop .inv .0 in let e : c .before .loop .s ≡ c .before .before .at-most-64 .result = omega arith in λ a b. c .before .loop .inv .3 a b ∙ rw (e, c .before .before .at-most-64 .ensures) (rounds-past (c .before .before .before .args .rows .bits) 64 (c .before .before .before .args .n) a b (omega (arith, c .before .loop .inv .1)))
+returns c =
+    let after-at-most-64 = c .before .before in
+    let loop = c .before .loop in
+    let h = c .loop-test .left in
+    let args = after-at-most-64 .before .args in
+    let i = loop .inv .0 in
+    let e : loop .s ≡ after-at-most-64 .at-most-64 .result = omega arith in
+    λ a b. loop .inv .3 a b ∙ rw (e, after-at-most-64 .at-most-64 .ensures) (rounds-past (args .rows .bits) 64 (args .n) a b (omega (arith, loop .inv .1)))
 
 pub reach-spec : {M : Type 1} → statement M
 reach-spec =

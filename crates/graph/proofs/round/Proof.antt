@@ -46,10 +46,27 @@ loop-less : tie.Need-loop-less Inv-loop μ-loop
 loop-less c = search needs
 
 loop-again : tie.Need-loop-again Inv-loop μ-loop
-loop-again c = let long : length (c .before .before .before .before .before .before .args .rows .now) ≡ 64 = c .before .before .before .before .before .before .pre in let h = c .before .before .loop-test .taken in (search needs, row-put (c .before .before .before .before .before .before .args .rows .now) (c .before .before .before .loop .rows) (c .before .before .before .before .before .before .args .s) (c .before .before .before .loop .i) _ _ (omega arith) (c .before .before .before .loop .inv .1) (c .before .before .before .before .row-at .ensures) (c .put-into .ensures))
+loop-again c =
+    let at-loop = c .before .before .before in
+    let entry = at-loop .before .before .before in
+    let loop = at-loop .loop in
+    let h = c .before .before .loop-test .taken in
+    let args = entry .args in
+    let long : length (args .rows .now) ≡ 64 = entry .pre in (
+      search needs,
+      row-put (args .rows .now) (loop .rows) (args .s) (loop .i) _ _ (omega arith) (loop .inv .1) (at-loop .before .row-at .ensures) (c .put-into .ensures),
+    )
 
 returns : tie.Need-returns Inv-loop μ-loop
-returns c = let long : length (c .before .before .before .before .args .rows .now) ≡ 64 = c .before .before .before .before .pre in let h = c .loop-test .left in let e : c .before .loop .i ≡ length (c .before .before .before .before .args .rows .now) = omega arith in c .before .loop .inv .1 ∙ rw e (all-written (joined (c .before .before .before .before .args .rows .now) (c .before .before .before .before .args .s)) (c .before .before .before .before .args .rows .now))
+returns c =
+    let entry = c .before .before .before .before in
+    let loop = c .before .loop in
+    let h = c .loop-test .left in
+    let args = entry .args in
+    let rows = args .rows .now in
+    let long : length rows ≡ 64 = entry .pre in
+    let e : loop .i ≡ length rows = omega arith in
+    loop .inv .1 ∙ rw e (all-written (joined rows (args .s)) rows)
 
 pub round-spec : {M : Type 1} → statement M
 round-spec =

@@ -31,7 +31,13 @@ find-field-requires : tie.Need-find-field-requires Inv-loop μ-loop
 find-field-requires c κs = search needs
 
 returns : tie.Need-returns Inv-loop μ-loop
-returns c = let f = fields (c .before .before .before .before .before .before .before .args .head .now) in sym (different-not f (c .before .before .before .before .loop .k) (c .before .before .before .before .loop .inv .0) (rw (← c .before .before .before .before .before .field-count .ensures) (c .before .before .before .loop-test .taken)) (rw (← c .before .before .field .ensures, ← c .before .find-field .ensures) (c .if1 .taken)))
+returns c =
+    let at-test = c .before .before .before in
+    let entry = at-test .before .before .before .before in
+    let loop = at-test .before .loop in
+    let f = fields (entry .args .head .now) in
+    sym (different-not f (loop .k) (loop .inv .0) (rw (← at-test .before .before .field-count .ensures) (at-test .loop-test .taken))
+    (rw (← c .before .before .field .ensures, ← c .before .find-field .ensures) (c .if1 .taken)))
 
 add-k : tie.Need-add-k Inv-loop μ-loop
 add-k c = search needs
@@ -40,10 +46,16 @@ loop-less : tie.Need-loop-less Inv-loop μ-loop
 loop-less c = search needs
 
 loop-again : tie.Need-loop-again Inv-loop μ-loop
-loop-again c = (search needs, below-more _ (c .before .before .before .before .loop .k) (c .before .before .before .before .loop .inv .1) (λ l. rw (← c .before .before .field .ensures, ← c .before .find-field .ensures) (c .if1 .left)))
+loop-again c =
+    let loop = c .before .before .before .before .loop in
+    (search needs, below-more _ (loop .k) (loop .inv .1) (λ l. rw (← c .before .before .field .ensures, ← c .before .find-field .ensures) (c .if1 .left)))
 
 returns-2 : tie.Need-returns-2 Inv-loop μ-loop
-returns-2 c = let f = fields (c .before .before .before .before .args .head .now) in sym (different-all f (c .before .loop .k) (rw (← c .before .before .field-count .ensures) (c .loop-test .left)) (c .before .loop .inv .1))
+returns-2 c =
+    let entry = c .before .before .before .before in
+    let loop = c .before .loop in
+    let f = fields (entry .args .head .now) in
+    sym (different-all f (loop .k) (rw (← c .before .before .field-count .ensures) (c .loop-test .left)) (loop .inv .1))
 
 pub all-different-spec : {M : Type 1} → statement M
 all-different-spec =

@@ -30,7 +30,14 @@ is-name-requires : tie.Need-is-name-requires Inv-loop μ-loop
 is-name-requires c κs = search needs
 
 returns : tie.Need-returns Inv-loop μ-loop
-returns c = let f = fields (c .before .before .before .before .before .before .before .args .head .now) in sym (c .before .before .before .before .loop .inv ∙ names-stop f (c .before .before .before .before .loop .k) (rw (← c .before .before .before .before .before .field-count .ensures) (c .before .before .before .loop-test .taken)) (c .before .before .field .ensures) (c .before .is-name .ensures) (not-true _ (c .if1 .taken)))
+returns c =
+    let at-test = c .before .before .before in
+    let entry = at-test .before .before .before .before in
+    let loop = at-test .before .loop in
+    let f = fields (entry .args .head .now) in
+    sym (loop .inv
+    ∙ names-stop f (loop .k) (rw (← at-test .before .before .field-count .ensures) (at-test .loop-test .taken)) (c .before .before .field .ensures)
+    (c .before .is-name .ensures) (not-true _ (c .if1 .taken)))
 
 add-k : tie.Need-add-k Inv-loop μ-loop
 add-k c = search needs
@@ -39,10 +46,21 @@ loop-less : tie.Need-loop-less Inv-loop μ-loop
 loop-less c = search needs
 
 loop-again : tie.Need-loop-again Inv-loop μ-loop
-loop-again c = let f = fields (c .before .before .before .before .before .before .before .args .head .now) in c .before .before .before .before .loop .inv ∙ names-more f (c .before .before .before .before .loop .k) (rw (← c .before .before .before .before .before .field-count .ensures) (c .before .before .before .loop-test .taken)) (c .before .before .field .ensures) (c .before .is-name .ensures) (not-false _ (c .if1 .left))
+loop-again c =
+    let at-test = c .before .before .before in
+    let entry = at-test .before .before .before .before in
+    let loop = at-test .before .loop in
+    let f = fields (entry .args .head .now) in
+    loop .inv
+    ∙ names-more f (loop .k) (rw (← at-test .before .before .field-count .ensures) (at-test .loop-test .taken)) (c .before .before .field .ensures)
+    (c .before .is-name .ensures) (not-false _ (c .if1 .left))
 
 returns-2 : tie.Need-returns-2 Inv-loop μ-loop
-returns-2 c = let f = fields (c .before .before .before .before .args .head .now) in sym (c .before .loop .inv ∙ names-end f (c .before .loop .k) (rw (← c .before .before .field-count .ensures) (c .loop-test .left)))
+returns-2 c =
+    let entry = c .before .before .before .before in
+    let loop = c .before .loop in
+    let f = fields (entry .args .head .now) in
+    sym (loop .inv ∙ names-end f (loop .k) (rw (← c .before .before .field-count .ensures) (c .loop-test .left)))
 
 pub all-names-spec : {M : Type 1} → statement M
 all-names-spec =

@@ -26,7 +26,17 @@ all-different-requires c κs = search needs
 
 returns : tie.Need-returns
 unfolding headGood headFields dimensions
-returns c = rw (c .before .before .is-dims .ensures, c .before .before .before .field .ensures, sized (fields (c .before .before .before .before .before .head-line .result .now)) (c .before .before .before .before .field-count .ensures), c .before .all-names .ensures, c .all-different .ensures, c .before .before .before .before .before .head-line .ensures)
+returns c =
+    let after-field = c .before .before .before in
+    let after-head-line = after-field .before .before in
+    rw (
+      c .before .before .is-dims .ensures,
+      after-field .field .ensures,
+      sized (fields (after-head-line .head-line .result .now)) (after-field .before .field-count .ensures),
+      c .before .all-names .ensures,
+      c .all-different .ensures,
+      after-head-line .head-line .ensures,
+    )
 
 pub head-good-spec : {M : Type 1} → statement M
 head-good-spec =

@@ -18,7 +18,9 @@ quad-count-requires c κs = search needs
 
 returns : tie.Need-returns
 unfolding givesName
-returns c = rw (c .quad-count .ensures, c .before .find-quadrant .ensures, c .before .before .same .ensures, c .before .before .before .field .ensures)
+returns c =
+    let after-field = c .before .before .before in
+    rw (c .quad-count .ensures, c .before .find-quadrant .ensures, c .before .before .same .ensures, after-field .field .ensures)
 
 pub gives-name-spec : {M : Type 1} → statement M
 gives-name-spec =

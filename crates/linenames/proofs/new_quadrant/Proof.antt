@@ -18,7 +18,9 @@ find-quadrant-requires c κs = search needs
 
 returns : tie.Need-returns
 unfolding newQuadrant
-returns c = rw (c .find-quadrant .ensures, c .before .same .ensures, c .before .before .field .ensures, c .before .before .before .quadrant-name .ensures)
+returns c =
+    let after-quadrant-name = c .before .before .before in
+    rw (c .find-quadrant .ensures, c .before .same .ensures, c .before .before .field .ensures, after-quadrant-name .quadrant-name .ensures)
 
 pub new-quadrant-spec : {M : Type 1} → statement M
 new-quadrant-spec =

@@ -30,7 +30,12 @@ new-quadrant-requires c κs = search needs
 
 returns : tie.Need-returns Inv-loop μ-loop
 unfolding ownDifferent
-returns c = let f = fields (c .before .before .before .before .before .before .args .line .now) in sym (all-stop (newQuadrant f) (quadCount f) (c .before .before .before .loop .q) (rw (← c .before .before .before .before .quad-count .ensures) (c .before .before .loop-test .taken)) (sym (c .before .new-quadrant .ensures) ∙ not-true _ (c .if1 .taken)))
+returns c =
+    let at-loop = c .before .before .before in
+    let entry = at-loop .before .before .before in
+    let f = fields (entry .args .line .now) in
+    sym (all-stop (newQuadrant f) (quadCount f) (at-loop .loop .q) (rw (← at-loop .before .quad-count .ensures) (c .before .before .loop-test .taken))
+    (sym (c .before .new-quadrant .ensures) ∙ not-true _ (c .if1 .taken)))
 
 add-q : tie.Need-add-q Inv-loop μ-loop
 add-q c = search needs
@@ -39,11 +44,22 @@ loop-less : tie.Need-loop-less Inv-loop μ-loop
 loop-less c = search needs
 
 loop-again : tie.Need-loop-again Inv-loop μ-loop
-loop-again c = let f = fields (c .before .before .before .before .before .before .args .line .now) in (search needs, all-more (newQuadrant f) (c .before .before .before .loop .q) (c .before .before .before .loop .inv .1) (sym (c .before .new-quadrant .ensures) ∙ not-false _ (c .if1 .left)))
+loop-again c =
+    let at-loop = c .before .before .before in
+    let entry = at-loop .before .before .before in
+    let loop = at-loop .loop in
+    let f = fields (entry .args .line .now) in
+    (search needs, all-more (newQuadrant f) (loop .q) (loop .inv .1) (sym (c .before .new-quadrant .ensures) ∙ not-false _ (c .if1 .left)))
 
 returns-2 : tie.Need-returns-2 Inv-loop μ-loop
 unfolding ownDifferent
-returns-2 c = let h = c .loop-test .left in let i = c .before .loop .inv .0 in let e : c .before .before .quad-count .result ≡ c .before .loop .q = omega arith in sym (rw (← c .before .before .quad-count .ensures, e) (c .before .loop .inv .1))
+returns-2 c =
+    let after-quad-count = c .before .before in
+    let loop = c .before .loop in
+    let h = c .loop-test .left in
+    let i = loop .inv .0 in
+    let e : after-quad-count .quad-count .result ≡ loop .q = omega arith in
+    sym (rw (← after-quad-count .quad-count .ensures, e) (loop .inv .1))
 
 pub own-different-spec : {M : Type 1} → statement M
 own-different-spec =

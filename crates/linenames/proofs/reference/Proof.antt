@@ -20,7 +20,9 @@ operand-name-requires c κs = search needs
 
 returns-2 : tie.Need-returns-2
 unfolding referenceAt
-returns-2 c = rw (ne-eqb (c .before .before .before .before .args .k) 2 (c .before .before .if1 .left), c .operand-name .ensures, c .before .field2 .ensures)
+returns-2 c =
+    let entry = c .before .before .before .before in
+    rw (ne-eqb (entry .args .k) 2 (c .before .before .if1 .left), c .operand-name .ensures, c .before .field2 .ensures)
 
 pub reference-spec : {M : Type 1} → statement M
 reference-spec =

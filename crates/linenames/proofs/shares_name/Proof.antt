@@ -25,7 +25,9 @@ gives-name-requires : tie.Need-gives-name-requires Inv-loop μ-loop
 gives-name-requires c κs = search needs
 
 returns : tie.Need-returns Inv-loop μ-loop
-returns c = shared-gate (fields (c .before .before .before .before .before .args .line .now)) (fields (c .before .before .before .before .before .args .other .now)) (c .before .before .field .ensures) (c .before .gives-name .ensures) (c .if1 .taken)
+returns c =
+    let args = c .before .before .before .before .before .args in
+    shared-gate (fields (args .line .now)) (fields (args .other .now)) (c .before .before .field .ensures) (c .before .gives-name .ensures) (c .if1 .taken)
 
 quad-count-requires : tie.Need-quad-count-requires Inv-loop μ-loop
 quad-count-requires c κs = search needs
@@ -41,7 +43,16 @@ gives-name-requires-2 : tie.Need-gives-name-requires-2 Inv-loop μ-loop
 gives-name-requires-2 c κs = search needs
 
 returns-2 : tie.Need-returns-2 Inv-loop μ-loop
-returns-2 c = let f = fields (c .before .before .before .before .before .before .before .before .before .before .before .args .line .now) in let g = fields (c .before .before .before .before .before .before .before .before .before .before .before .args .other .now) in sym (shared-rest f g (c .before .before .before .before .before .before .before .before .field .ensures) (c .before .before .before .before .before .before .before .gives-name .ensures) (c .before .before .before .before .before .before .if1 .left) ∙ any-stop (sharesQuadrant f g) (quadCount f) (c .before .before .before .before .loop .q) (rw (← c .before .before .before .before .before .quad-count .ensures) (c .before .before .before .loop-test .taken)) (shared-is f (c .before .before .before .before .loop .q) g (c .before .before .quadrant-name .ensures) (c .before .gives-name2 .ensures) (c .if2 .taken)))
+returns-2 c =
+    let at-test = c .before .before .before in
+    let at-if1 = at-test .before .before .before in
+    let loop = at-test .before .loop in
+    let args = at-if1 .before .before .before .before .before .args in
+    let f = fields (args .line .now) in
+    let g = fields (args .other .now) in
+    sym (shared-rest f g (at-if1 .before .before .field .ensures) (at-if1 .before .gives-name .ensures) (at-if1 .if1 .left)
+    ∙ any-stop (sharesQuadrant f g) (quadCount f) (loop .q) (rw (← at-test .before .before .quad-count .ensures) (at-test .loop-test .taken))
+    (shared-is f (loop .q) g (c .before .before .quadrant-name .ensures) (c .before .gives-name2 .ensures) (c .if2 .taken)))
 
 add-q : tie.Need-add-q Inv-loop μ-loop
 add-q c = search needs
@@ -50,10 +61,30 @@ loop-less : tie.Need-loop-less Inv-loop μ-loop
 loop-less c = search needs
 
 loop-again : tie.Need-loop-again Inv-loop μ-loop
-loop-again c = let f = fields (c .before .before .before .before .before .before .before .before .before .before .before .args .line .now) in let g = fields (c .before .before .before .before .before .before .before .before .before .before .before .args .other .now) in (search needs, any-more (sharesQuadrant f g) (c .before .before .before .before .loop .q) (c .before .before .before .before .loop .inv .1) (shared-is f (c .before .before .before .before .loop .q) g (c .before .before .quadrant-name .ensures) (c .before .gives-name2 .ensures) (c .if2 .left)))
+loop-again c =
+    let at-loop = c .before .before .before .before in
+    let loop = at-loop .loop in
+    let args = at-loop .before .before .before .before .before .before .before .args in
+    let f = fields (args .line .now) in
+    let g = fields (args .other .now) in (
+      search needs,
+      any-more (sharesQuadrant f g) (loop .q) (loop .inv .1)
+          (shared-is f (loop .q) g (c .before .before .quadrant-name .ensures) (c .before .gives-name2 .ensures) (c .if2 .left)),
+    )
 
 returns-3 : tie.Need-returns-3 Inv-loop μ-loop
-returns-3 c = let f = fields (c .before .before .before .before .before .before .before .before .args .line .now) in let g = fields (c .before .before .before .before .before .before .before .before .args .other .now) in let h = c .loop-test .left in let i = c .before .loop .inv .0 in let e : c .before .before .quad-count .result ≡ c .before .loop .q = omega arith in sym (shared-rest f g (c .before .before .before .before .before .field .ensures) (c .before .before .before .before .gives-name .ensures) (c .before .before .before .if1 .left) ∙ rw (← c .before .before .quad-count .ensures, e) (c .before .loop .inv .1))
+returns-3 c =
+    let after-quad-count = c .before .before in
+    let after-field = after-quad-count .before .before .before in
+    let loop = c .before .loop in
+    let h = c .loop-test .left in
+    let i = loop .inv .0 in
+    let args = after-field .before .before .before .args in
+    let f = fields (args .line .now) in
+    let g = fields (args .other .now) in
+    let e : after-quad-count .quad-count .result ≡ loop .q = omega arith in
+    sym (shared-rest f g (after-field .field .ensures) (after-quad-count .before .before .gives-name .ensures) (after-quad-count .before .if1 .left)
+    ∙ rw (← after-quad-count .quad-count .ensures, e) (loop .inv .1))
 
 pub shares-name-spec : {M : Type 1} → statement M
 shares-name-spec =

@@ -21,13 +21,17 @@ loop-holds : tie.Need-loop-holds Inv-loop μ-loop
 loop-holds c = passed-none _ _
 
 add-result : tie.Need-add-result Inv-loop μ-loop
-add-result c = omega (arith, c .before .before .before .before .loop .inv .below)
+add-result c =
+    let at-loop = c .before .before .before .before in
+    omega (arith, at-loop .loop .inv .below)
 
 returns : tie.Need-returns Inv-loop μ-loop
 returns c =
-    let l = c .before .before .before .before in (
-      bad-found _ _ (l .loop .at) (l .loop .k) (l .loop .inv) (c .before .before .before .loop-test .taken) (rw (c .before .is-event .ensures, c .before .before .line-from .ensures) at (c .if1 .taken)),
-      omega (arith, l .loop .inv .below),
+    let at-test = c .before .before .before in
+    let loop = at-test .before .loop in (
+      bad-found _ _ (loop .at) (loop .k) (loop .inv) (at-test .loop-test .taken)
+          (rw (c .before .is-event .ensures, c .before .before .line-from .ensures) at (c .if1 .taken)),
+      omega (arith, loop .inv .below),
     )
 
 add-at : tie.Need-add-at Inv-loop μ-loop
@@ -36,7 +40,9 @@ add-at c =
     omega (arith, found-inside (l .before .before .args .part .now) (l .loop .at) 10 (c .find .ensures) (omega arith))
 
 add-k : tie.Need-add-k Inv-loop μ-loop
-add-k c = omega (arith, c .before .before .before .before .before .loop .inv .below)
+add-k c =
+    let at-loop = c .before .before .before .before .before in
+    omega (arith, at-loop .loop .inv .below)
 
 loop-less : tie.Need-loop-less Inv-loop μ-loop
 loop-less c =
@@ -52,15 +58,15 @@ loop-again c =
 
 returns-2 : tie.Need-returns-2 Inv-loop μ-loop
 returns-2 c =
-    let l = c .before .before .before in (
-      bad-open _ _ (l .loop .at) (l .loop .k) (l .loop .inv) (c .before .before .loop-test .left) (sym (c .before .ends-in-lf .ensures) ∙ not-true _ (c .if2 .taken)),
-      omega (arith, l .loop .inv .below, l .loop .inv .inside),
+    let loop = c .before .before .before .loop in (
+      bad-open _ _ (loop .at) (loop .k) (loop .inv) (c .before .before .loop-test .left) (sym (c .before .ends-in-lf .ensures) ∙ not-true _ (c .if2 .taken)),
+      omega (arith, loop .inv .below, loop .inv .inside),
     )
 
 returns-3 : tie.Need-returns-3 Inv-loop μ-loop
 returns-3 c =
-    let l = c .before .before .before in (
-      bad-none _ _ (l .loop .at) (l .loop .k) (l .loop .inv) (c .before .before .loop-test .left) (sym (c .before .ends-in-lf .ensures) ∙ not-false _ (c .if2 .left)),
+    let loop = c .before .before .before .loop in (
+      bad-none _ _ (loop .at) (loop .k) (loop .inv) (c .before .before .loop-test .left) (sym (c .before .ends-in-lf .ensures) ∙ not-false _ (c .if2 .left)),
       search needs,
     )
 

@@ -28,16 +28,19 @@ loop-holds c = (sym (c .if1 .left) ∙ c .before .field-count .ensures, refl)
 
 returns-2 : tie.Need-returns-2 Inv-loop μ-loop
 returns-2 c =
-    let l = c .before .before .before .before in
-    event-misformed _ _ (l .loop .k) (l .loop .inv .1) (omega arith) (rw (c .before .before .field .ensures) at (sym (c .before .is-number .ensures)) ∙ not-true _ (c .if2 .taken))
+    let loop = c .before .before .before .before .loop in
+    event-misformed _ _ (loop .k) (loop .inv .1) (omega arith)
+    (rw (c .before .before .field .ensures) at (sym (c .before .is-number .ensures)) ∙ not-true _ (c .if2 .taken))
 
 loop-again : tie.Need-loop-again Inv-loop μ-loop
 loop-again c =
     let l = c .before .before .before .before in
+    let loop = l .loop in
     let s = l .before .before .before .before .args .line .now in (
-      l .loop .inv .0,
-      l .loop .inv .1
-          ∙ every-goes-on (fields s) (l .loop .k) [] isNumber (omega arith) (rw (c .before .before .field .ensures) at (sym (c .before .is-number .ensures)) ∙ not-false _ (c .if2 .left)),
+      loop .inv .0,
+      loop .inv .1
+          ∙ every-goes-on (fields s) (loop .k) [] isNumber (omega arith)
+          (rw (c .before .before .field .ensures) at (sym (c .before .is-number .ensures)) ∙ not-false _ (c .if2 .left)),
     )
 
 returns-3 : tie.Need-returns-3 Inv-loop μ-loop

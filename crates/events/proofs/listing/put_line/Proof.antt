@@ -27,10 +27,12 @@ loop-again : tie.Need-loop-again Inv-loop μ-loop
 loop-again c =
     let w = c .before in
     let l = w .before .before .before .before .before in
+    let loop = l .loop in
     let a = l .before .before .before .args in (
-      l .loop .inv .0,
+      loop .inv .0,
       omega arith,
-      rw (w .put-value .ensures, l .loop .inv .2, w .before .read-number .ensures, w .before .before .field .ensures) (line-more (a .line .now) (a .rest .now) (l .loop .k) (omega arith)),
+      rw (w .put-value .ensures, loop .inv .2, w .before .read-number .ensures, w .before .before .field .ensures)
+          (line-more (a .line .now) (a .rest .now) (loop .k) (omega arith)),
     )
 
 same-length : tie.Need-same-length Inv-loop μ-loop

@@ -27,12 +27,15 @@ add-at c =
 add-m : tie.Need-add-m Inv-loop μ-loop
 add-m c =
     let w = c .before .before in
-    let l = w .before .before .before .before in
+    let at-test = w .before .before .before in
+    let l = at-test .before in
+    let loop = l .loop in
     let a = l .before .before .args in
     omega (
       arith,
-      few-more (a .part .now) (a .list .now) (l .loop .at) (l .loop .m) (l .loop .inv) (w .before .before .before .loop-test .taken) (rw (w .before .line-from .ensures) at (w .put-line-from .ensures .0)),
-      found-inside (a .part .now) (l .loop .at) 10 (c .find .ensures) (omega arith),
+      few-more (a .part .now) (a .list .now) (loop .at) (loop .m) (loop .inv) (at-test .loop-test .taken)
+          (rw (w .before .line-from .ensures) at (w .put-line-from .ensures .0)),
+      found-inside (a .part .now) (loop .at) 10 (c .find .ensures) (omega arith),
     )
 
 loop-less : tie.Need-loop-less Inv-loop μ-loop
@@ -43,9 +46,11 @@ loop-less c =
 loop-again : tie.Need-loop-again Inv-loop μ-loop
 loop-again c =
     let w = c .before .before in
-    let l = w .before .before .before .before in
-    filled-more _ _ (l .loop .at) (l .loop .m) (l .loop .inv) (w .before .before .before .loop-test .taken) (rw (w .before .line-from .ensures) at (w .put-line-from .ensures .0))
-    _ (c .find .ensures) _ (rw (w .before .line-from .ensures) at (w .put-line-from .ensures .1))
+    let after-line-from = w .before in
+    let loop = after-line-from .before .before .before .loop in
+    filled-more _ _ (loop .at) (loop .m) (loop .inv) (after-line-from .before .before .loop-test .taken)
+    (rw (after-line-from .line-from .ensures) at (w .put-line-from .ensures .0))
+    _ (c .find .ensures) _ (rw (after-line-from .line-from .ensures) at (w .put-line-from .ensures .1))
 
 same-length : tie.Need-same-length Inv-loop μ-loop
 same-length c = ap length (c .before .loop .inv .written) ∙ over-length _ _

@@ -22,10 +22,12 @@ loop-holds c = passed-none _ _
 returns : tie.Need-returns Inv-loop μ-loop
 returns c =
     let s = c .before in
-    let l = s .before .before .before .before in (
-      opening-found _ (l .loop .at) (l .loop .before) (l .loop .inv) (s .before .before .before .loop-test .taken) (rw (s .before .line-from .ensures) at (sym (s .same .ensures)) ∙ c .if1 .taken),
+    let at-test = s .before .before .before in
+    let loop = at-test .before .loop in (
+      opening-found _ (loop .at) (loop .before) (loop .inv) (at-test .loop-test .taken)
+          (rw (s .before .line-from .ensures) at (sym (s .same .ensures)) ∙ c .if1 .taken),
       omega arith,
-      omega (arith, l .loop .inv .below),
+      omega (arith, loop .inv .below),
     )
 
 add-at : tie.Need-add-at Inv-loop μ-loop
@@ -34,7 +36,9 @@ add-at c =
     omega (arith, found-inside (l .before .before .args .input .now) (l .loop .at) 10 (c .find .ensures) (omega arith))
 
 add-before : tie.Need-add-before Inv-loop μ-loop
-add-before c = omega (arith, c .before .before .before .before .before .before .loop .inv .below)
+add-before c =
+    let at-loop = c .before .before .before .before .before .before in
+    omega (arith, at-loop .loop .inv .below)
 
 loop-less : tie.Need-loop-less Inv-loop μ-loop
 loop-less c =

@@ -7,10 +7,11 @@ use Rattle.events.proofs.parting.split.Tie as tie
 
 returns : tie.Need-returns
 returns c =
-    let f = c .before .before in (
-      parted-is (f .before .before .args .input .now) (f .find-events .result) (c .before .is-lf .result) (f .find-events .ensures .0) (c .before .is-lf .ensures),
-      f .find-events .ensures .1,
-      omega (arith, f .find-events .ensures .2),
+    let f = c .before .before in
+    let find-events = f .find-events in (
+      parted-is (f .before .before .args .input .now) (find-events .result) (c .before .is-lf .result) (find-events .ensures .0) (c .before .is-lf .ensures),
+      find-events .ensures .1,
+      omega (arith, find-events .ensures .2),
     )
 
 pub split-spec : {M : Type 1} → statement M

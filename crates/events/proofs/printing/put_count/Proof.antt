@@ -10,13 +10,15 @@ add-c : tie.Need-add-c
 add-c c =
     let number = c .before .before in
     let name = number .before .before .before .before .before .before .before .before .before in
-    omega (arith, decimal-length (name .before .before .before .before .args .count))
+    let entry = name .before .before .before .before in
+    omega (arith, decimal-length (entry .args .count))
 
 add-result : tie.Need-add-result
 add-result c =
     let number = c .before .before .before .before .before .before .before in
     let name = number .before .before .before .before .before .before .before .before .before in
-    omega (arith, decimal-length (name .before .before .before .before .args .count))
+    let entry = name .before .before .before .before in
+    omega (arith, decimal-length (entry .args .count))
 
 returns : tie.Need-returns
 returns c =

@@ -11,12 +11,14 @@ use Rattle.events.proofs.printing.put_refused.Tie as tie
 add-b : tie.Need-add-b
 add-b c =
     let head = c .before .before .before .before .before .before in
-    omega (arith, decimal-length (head .before .before .before .before .args .number))
+    let entry = head .before .before .before .before in
+    omega (arith, decimal-length (entry .args .number))
 
 add-c : tie.Need-add-c
 add-c c =
     let head = c .before .before .before .before .before .before .before .before .before .before .before in
-    omega (arith, decimal-length (head .before .before .before .before .args .number))
+    let entry = head .before .before .before .before in
+    omega (arith, decimal-length (entry .args .number))
 
 add-d : tie.Need-add-d
 add-d c =
@@ -42,7 +44,8 @@ returns c =
     let head = number .before .before .before .before in
     let a = head .before .before .before .before .args in
     refused-written (a .rest .now) (bytes "refused\t") (a .number) (a .place)
-    (head .put-bytes .ensures) (number .put-number-from .ensures) (tab .put-bytes-from .ensures) (place .put-number-from2 .ensures) (lf .put-bytes-from2 .ensures)
+    (head .put-bytes .ensures) (number .put-number-from .ensures) (tab .put-bytes-from .ensures) (place .put-number-from2 .ensures)
+    (lf .put-bytes-from2 .ensures)
 
 pub put-refused-spec : {M : Type 1} → statement M
 put-refused-spec =

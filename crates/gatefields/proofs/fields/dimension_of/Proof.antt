@@ -1,3 +1,4 @@
+-- `dimension_of`: the place at which the search stops, without the head word, is the number of the dimension.
 use Rattle.gatefields.proofs.FieldLaws.{dimension-found}
 use borrow.Author.Needs.{needs}
 use Rattle.gatefields.proofs.fields.dimension_of.Statement.{statement}

@@ -1,3 +1,4 @@
+-- `is_complement`: an empty field is none; of any other the first byte decides.
 use Rattle.gates.specs.Kinds.{isComplement}
 use Rattle.gatefields.proofs.FieldLaws.{no-complement}
 use borrow.Author.Needs.{needs}

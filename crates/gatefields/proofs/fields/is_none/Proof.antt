@@ -1,3 +1,4 @@
+-- `is_none`: one comparison of bytes.
 use Rattle.gates.specs.Kinds.{isNone}
 use borrow.Author.Needs.{needs}
 use Rattle.gatefields.proofs.fields.is_none.Statement.{statement}

@@ -1,3 +1,4 @@
+-- `is_operand`: whether what stands behind `!` is a name.
 use Rattle.gates.specs.Kinds.{isOperand}
 use borrow.Author.Needs.{needs}
 use Rattle.gatefields.proofs.fields.is_operand.Statement.{statement}

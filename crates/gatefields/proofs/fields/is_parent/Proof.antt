@@ -1,3 +1,4 @@
+-- `is_parent`: no parent, or a name.
 use Rattle.gates.specs.Kinds.{isParent}
 use borrow.Author.Needs.{needs}
 use Rattle.gatefields.proofs.fields.is_parent.Statement.{statement}

@@ -1,3 +1,4 @@
+-- `is_star`: one comparison of bytes.
 use Rattle.gates.specs.Kinds.{isStar}
 use borrow.Author.Needs.{needs}
 use Rattle.gatefields.proofs.fields.is_star.Statement.{statement}

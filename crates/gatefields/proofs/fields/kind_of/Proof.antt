@@ -1,3 +1,4 @@
+-- `kind_of`: the kind that the first field names.
 use borrow.Author.Needs.{needs}
 use Rattle.gatefields.proofs.fields.kind_of.Statement.{statement}
 use Rattle.gatefields.proofs.fields.kind_of.Tie as tie

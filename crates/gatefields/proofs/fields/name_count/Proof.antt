@@ -1,3 +1,4 @@
+-- `name_count`: the fields of the head line but the first.
 use lib.ListN.{length-drop}
 use borrow.Author.Needs.{needs}
 use Rattle.gatefields.proofs.fields.name_count.Statement.{statement}

@@ -1,3 +1,4 @@
+-- `operand_name`: a field with `!` has a byte to leave out.
 use native.Mathlib.Omega.{arith}
 use mathlib.Core.Path.{sym, _∙_}
 use Rattle.gates.specs.Kinds.{operandName}
@@ -15,7 +16,9 @@ part-result-start c = omega (arith, complement-some _ (sym (c .before .is-comple
 
 returns : tie.Need-returns
 unfolding operandName
-returns c = rw (← c .before .before .is-complement .ensures, c .before .if1 .taken) (part-rest 1 (c .before .before .before .before .args .x .now))
+returns c =
+    let entry = c .before .before .before .before in
+    rw (← c .before .before .is-complement .ensures, c .before .if1 .taken) (part-rest 1 (entry .args .x .now))
 
 returns-2 : tie.Need-returns-2
 unfolding operandName

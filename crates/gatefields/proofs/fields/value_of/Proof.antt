@@ -1,3 +1,4 @@
+-- `value_of`: what is kept of the number that was read.
 use mir.Syntax.{w32}
 use mir.ValLaws.{toZ-ofZ}
 use Rattle.gates.specs.Kinds.{valueOf}

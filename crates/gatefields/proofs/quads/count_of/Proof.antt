@@ -1,3 +1,4 @@
+-- `count_of`: a field of one byte from `1` to `3`, and 0 for any other.
 use native.Mathlib.Omega.{arith}
 use borrow.Author.Tests.{eq-eqb, le-leb}
 use Rattle.gates.specs.Quads.{countDigit}

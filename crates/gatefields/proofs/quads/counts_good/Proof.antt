@@ -1,3 +1,4 @@
+-- `counts_good`: below divider t each has a value.
 use borrow.Author.Needs.{needs}
 use native.Mathlib.Omega.{arith}
 use native.Mathlib.Numerals.{add-one}
@@ -22,7 +23,10 @@ loop-holds c = (search needs, refl)
 
 loop-again : tie.Need-loop-again Inv-loop μ-loop
 unfolding all
-loop-again c = let e : min (c .before .before .loop .t) 3 ≡ c .before .before .loop .t = omega arith in (search needs, rw (add-one, c .value-count .ensures .0, e, c .before .before .loop .inv .1))
+loop-again c =
+    let loop = c .before .before .loop in
+    let e : min (loop .t) 3 ≡ loop .t = omega arith in
+    (search needs, rw (add-one, c .value-count .ensures .0, e, loop .inv .1))
 
 returns : tie.Need-returns Inv-loop μ-loop
 returns c = let e : c .before .loop .t ≡ c .before .before .before .args .d = omega arith in rw (c .before .loop .inv .1, e)

@@ -1,3 +1,4 @@
+-- `divider_at`: the field at which divider j begins, j by j; each divider takes at most five fields.
 use borrow.Author.Needs.{needs}
 use native.Mathlib.Omega.{arith}
 use native.Mathlib.Numerals.{add-one}
@@ -20,10 +21,15 @@ loop-holds c = (search needs, refl, search needs, search needs)
 
 loop-again : tie.Need-loop-again Inv-loop μ-loop
 unfolding dividerAt
-loop-again c = (search needs, rw (add-one, c .count-of .ensures .0, c .before .field .ensures, c .before .before .before .loop .inv .1), search needs, search needs)
+loop-again c =
+    (search needs, rw (add-one, c .count-of .ensures .0, c .before .field .ensures, c .before .before .before .loop .inv .1), search needs, search needs)
 
 returns : tie.Need-returns Inv-loop μ-loop
-returns c = let l = c in let e : l .before .loop .j ≡ c .before .before .lesser .result = omega arith in (rw (l .before .loop .inv .1, e, c .before .before .lesser .ensures), search needs, search needs)
+returns c =
+    let after-lesser = c .before .before in
+    let l = c in
+    let e : l .before .loop .j ≡ after-lesser .lesser .result = omega arith in
+    (rw (l .before .loop .inv .1, e, after-lesser .lesser .ensures), search needs, search needs)
 
 pub divider-at-spec : {M : Type 1} → statement M
 divider-at-spec =

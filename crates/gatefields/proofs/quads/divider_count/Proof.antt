@@ -1,3 +1,4 @@
+-- `divider_count`: the digit of field 3.
 use borrow.Author.Needs.{needs}
 use Rattle.gatefields.proofs.quads.divider_count.Statement.{statement}
 use Rattle.gatefields.proofs.quads.divider_count.Tie as tie

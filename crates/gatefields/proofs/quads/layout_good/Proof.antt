@@ -1,3 +1,4 @@
+-- `layout_good`: the contracts of the calls, put together.
 use Rattle.gates.specs.Quads.{layoutGood}
 use borrow.Author.Needs.{needs}
 use Rattle.gatefields.proofs.quads.layout_good.Statement.{statement}
@@ -5,7 +6,15 @@ use Rattle.gatefields.proofs.quads.layout_good.Tie as tie
 
 returns : tie.Need-returns
 unfolding layoutGood
-returns c = rw (c .minus .ensures, c .before .counts-good .ensures, c .before .before .field-count .ensures, c .before .before .before .quadrants-at .ensures .0, c .before .before .before .before .divider-count .ensures .0)
+returns c =
+    let after-quadrants-at = c .before .before .before in
+    rw (
+      c .minus .ensures,
+      c .before .counts-good .ensures,
+      c .before .before .field-count .ensures,
+      after-quadrants-at .quadrants-at .ensures .0,
+      after-quadrants-at .before .divider-count .ensures .0,
+    )
 
 pub layout-good-spec : {M : Type 1} → statement M
 layout-good-spec =

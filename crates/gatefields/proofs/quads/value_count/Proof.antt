@@ -1,3 +1,4 @@
+-- `value_count`: the digit of the field after the dimension of the divider.
 use borrow.Author.Needs.{needs}
 use Rattle.gatefields.proofs.quads.value_count.Statement.{statement}
 use Rattle.gatefields.proofs.quads.value_count.Tie as tie

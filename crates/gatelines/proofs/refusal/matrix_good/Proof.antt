@@ -1,3 +1,4 @@
+-- `matrix_good`: both products fit an i64.
 use mir.Syntax.{w64}
 use mir.ValLaws.{toZ-ofZ}
 use Rattle.plans.specs.Form.{matrixGood}
@@ -7,7 +8,14 @@ use Rattle.gatelines.proofs.refusal.matrix_good.Tie as tie
 
 returns : tie.Need-returns
 unfolding matrixGood
-returns c = rw (toZ-ofZ w64 _ (record { sfits = c .before .product .ok }), toZ-ofZ w64 _ (record { sfits = c .product2 .ok }), c .product2 .ensures, c .before .product .ensures) (search needs)
+returns c =
+    rw (
+      toZ-ofZ w64 _ (record { sfits = c .before .product .ok }),
+      toZ-ofZ w64 _ (record { sfits = c .product2 .ok }),
+      c .product2 .ensures,
+      c .before .product .ensures,
+    )
+    (search needs)
 
 pub matrix-good-spec : {M : Type 1} → statement M
 matrix-good-spec =

@@ -1,3 +1,4 @@
+-- `product`: the product of two i32 fits an i64.
 use mir.Syntax.{w32, w64}
 use mir.ValLaws.{toZ-ofZ}
 use Rattle.gatelines.proofs.ProductLaws.{product-fits, wide-fits, cast-is}

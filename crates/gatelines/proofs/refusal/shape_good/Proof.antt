@@ -1,3 +1,4 @@
+-- `shape_good`: by the kind.
 use Rattle.plans.specs.Form.{spans, spansBy}
 use borrow.Author.Needs.{needs}
 use Rattle.gatelines.proofs.refusal.shape_good.Statement.{statement}

@@ -1,3 +1,4 @@
+-- `tiling_passes`: by the kind; a quad line is held to tiling.
 use borrow.Author.Needs.{needs}
 use Rattle.gatelines.proofs.refusal.tiling_passes.Statement.{statement}
 use Rattle.gatelines.proofs.refusal.tiling_passes.Tie as tie

@@ -1,3 +1,4 @@
+-- `body_length`: three words for each divider of a quad line, and the fields behind the parent of any other.
 use Rattle.gates.specs.Inner.Regions.{bodyLength}
 use borrow.Author.Needs.{needs}
 use Rattle.gatelines.proofs.regions.body_length.Statement.{statement}
@@ -5,11 +6,21 @@ use Rattle.gatelines.proofs.regions.body_length.Tie as tie
 
 returns : tie.Need-returns
 unfolding bodyLength
-returns c = rw (← c .before .before .before .kind-of .ensures, ← c .before .before .is-quad .ensures, c .before .if1 .taken, c .divider-count .ensures .0)
+returns c =
+    let after-kind-of = c .before .before .before in
+    rw (← after-kind-of .kind-of .ensures, ← c .before .before .is-quad .ensures, c .before .if1 .taken, c .divider-count .ensures .0)
 
 returns-2 : tie.Need-returns-2
 unfolding bodyLength
-returns-2 c = rw (← c .before .before .before .before .kind-of .ensures, ← c .before .before .before .is-quad .ensures, c .before .before .if1 .left, c .minus .ensures, c .before .field-count .ensures)
+returns-2 c =
+    let after-is-quad = c .before .before .before in
+    rw (
+      ← after-is-quad .before .kind-of .ensures,
+      ← after-is-quad .is-quad .ensures,
+      c .before .before .if1 .left,
+      c .minus .ensures,
+      c .before .field-count .ensures,
+    )
 
 pub body-length-spec : {M : Type 1} → statement M
 body-length-spec =

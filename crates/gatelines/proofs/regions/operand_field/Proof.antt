@@ -1,3 +1,4 @@
+-- `operand_field`: behind the end there is no field.
 use native.Mathlib.Omega.{arith}
 use mathlib.Core.Path.{sym}
 use mathlib.Core.List.{[]}
@@ -9,7 +10,11 @@ use Rattle.gatelines.proofs.regions.operand_field.Statement.{statement}
 use Rattle.gatelines.proofs.regions.operand_field.Tie as tie
 
 returns : tie.Need-returns
-returns c = sym (List·getD-eq-default (fields (c .before .before .before .before .before .args .line .now)) [] {n = 3 + c .before .before .before .before .before .args .j} (omega (arith, c .before .before .minus .ensures, c .before .before .before .field-count .ensures)))
+returns c =
+    let after-field-count = c .before .before .before in
+    let args = after-field-count .before .before .args in
+    sym (List·getD-eq-default (fields (args .line .now)) [] {n = 3 + args .j}
+    (omega (arith, c .before .before .minus .ensures, after-field-count .field-count .ensures)))
 
 returns-2 : tie.Need-returns-2
 returns-2 c = c .field .ensures

@@ -1,3 +1,4 @@
+-- `region_count`: the quadrants of a quad line, and one region of any other.
 use Rattle.gates.specs.Inner.Regions.{regionCount}
 use borrow.Author.Needs.{needs}
 use Rattle.gatelines.proofs.regions.region_count.Statement.{statement}
@@ -5,7 +6,9 @@ use Rattle.gatelines.proofs.regions.region_count.Tie as tie
 
 returns : tie.Need-returns
 unfolding regionCount
-returns c = rw (← c .before .before .before .kind-of .ensures, ← c .before .before .is-quad .ensures, c .before .if1 .taken, c .quadrant-count .ensures)
+returns c =
+    let after-kind-of = c .before .before .before in
+    rw (← after-kind-of .kind-of .ensures, ← c .before .before .is-quad .ensures, c .before .if1 .taken, c .quadrant-count .ensures)
 
 returns-2 : tie.Need-returns-2
 unfolding regionCount

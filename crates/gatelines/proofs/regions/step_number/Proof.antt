@@ -1,3 +1,4 @@
+-- `step_number`: the number of the kind.
 use borrow.Author.Needs.{needs}
 use Rattle.gatelines.proofs.regions.step_number.Statement.{statement}
 use Rattle.gatelines.proofs.regions.step_number.Tie as tie

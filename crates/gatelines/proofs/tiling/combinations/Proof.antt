@@ -1,3 +1,4 @@
+-- `combinations`: 4 ^ d for each d up to 3.
 use native.Mathlib.Omega.{arith}
 use mathlib.Core.Path.{_≡_}
 use Rattle.gatelines.proofs.tiling.combinations.Statement.{statement}

@@ -1,3 +1,4 @@
+-- `divider_value`: the value that the field of the divider holds.
 use native.Mathlib.Omega.{arith}
 use mathlib.Core.Path.{_≡_}
 use Prim.Native.Nat.{min}
@@ -10,7 +11,10 @@ use Rattle.gatelines.proofs.tiling.divider_value.Tie as tie
 
 returns : tie.Need-returns
 unfolding dividerValue
-returns c = let e : min (c .before .before .before .before .args .t) 3 ≡ c .before .before .before .before .args .t = omega arith in rw (toZ-ofZ w32 _ (record { sfits = c .value-of .ok }), c .value-of .ensures, c .before .field .ensures, c .before .before .divider-at .ensures .0, e)
+returns c =
+    let args = c .before .before .before .before .args in
+    let e : min (args .t) 3 ≡ args .t = omega arith in
+    rw (toZ-ofZ w32 _ (record { sfits = c .value-of .ok }), c .value-of .ensures, c .before .field .ensures, c .before .before .divider-at .ensures .0, e)
 
 pub divider-value-spec : {M : Type 1} → statement M
 divider-value-spec =

@@ -1,3 +1,4 @@
+-- `held_once`: a number that is no combination passes; a combination has one holder.
 use Rattle.gates.specs.Tiling.{heldOnce}
 use borrow.Author.Needs.{needs}
 use Rattle.gatelines.proofs.tiling.held_once.Statement.{statement}

@@ -1,3 +1,4 @@
+-- `holders`: how many of the quadrants below q hold the combination.
 use borrow.Author.Needs.{needs}
 use native.Mathlib.Omega.{arith}
 use native.Mathlib.Numerals.{add-one}
@@ -31,7 +32,11 @@ unfolding howMany
 loop-again c = (search needs, rw (add-one, c .pick .ensures, c .before .holds-combination .ensures, c .before .before .before .loop .inv .1))
 
 returns : tie.Need-returns Inv-loop μ-loop
-returns c = let e : c .before .loop .q ≡ c .before .before .quadrant-count .result = omega arith in rw (c .before .loop .inv .1, e, c .before .before .quadrant-count .ensures)
+returns c =
+    let after-quadrant-count = c .before .before in
+    let loop = c .before .loop in
+    let e : loop .q ≡ after-quadrant-count .quadrant-count .result = omega arith in
+    rw (loop .inv .1, e, after-quadrant-count .quadrant-count .ensures)
 
 pub holders-spec : {M : Type 1} → statement M
 holders-spec =

@@ -1,3 +1,4 @@
+-- `holds_combination`: below divider t each interval is held.
 use borrow.Author.Needs.{needs}
 use native.Mathlib.Omega.{arith}
 use native.Mathlib.Numerals.{add-one}
@@ -20,7 +21,9 @@ unfolding all
 loop-holds c = (search needs, refl)
 
 holds-interval-requires : tie.Need-holds-interval-requires Inv-loop μ-loop
-holds-interval-requires c κs = (c .before .before .before .before .before .pre, omega (arith, c .before .before .before .divider-count .ensures .0))
+holds-interval-requires c κs =
+    let after-divider-count = c .before .before .before in
+    (after-divider-count .before .before .pre, omega (arith, after-divider-count .divider-count .ensures .0))
 
 loop-again : tie.Need-loop-again Inv-loop μ-loop
 unfolding all
@@ -28,7 +31,11 @@ loop-again c = (search needs, rw (add-one, c .holds-interval .ensures, c .before
 
 returns : tie.Need-returns Inv-loop μ-loop
 unfolding holdsCombination
-returns c = let e : c .before .loop .t ≡ c .before .before .divider-count .result = omega arith in rw (c .before .loop .inv .1, e, c .before .before .divider-count .ensures .0)
+returns c =
+    let after-divider-count = c .before .before in
+    let loop = c .before .loop in
+    let e : loop .t ≡ after-divider-count .divider-count .result = omega arith in
+    rw (loop .inv .1, e, after-divider-count .divider-count .ensures .0)
 
 pub holds-combination-spec : {M : Type 1} → statement M
 holds-combination-spec =

@@ -1,3 +1,4 @@
+-- `interval`: how many of the values below j are at most x.
 use borrow.Author.Needs.{needs}
 use native.Mathlib.Omega.{arith}
 use native.Mathlib.Numerals.{add-one}
@@ -30,11 +31,23 @@ add-pick c = let h = count-le _ _ _ (c .before .before .loop .inv .1) in search 
 
 loop-again : tie.Need-loop-again Inv-loop μ-loop
 unfolding howMany
-loop-again c = (search needs, rw (add-one, c .pick .ensures, toZ-ofZ w32 _ (record { sfits = c .before .divider-value .ok }), c .before .divider-value .ensures, c .before .before .before .loop .inv .1))
+loop-again c =
+    let at-loop = c .before .before .before in (
+      search needs,
+      rw (add-one, c .pick .ensures, toZ-ofZ w32 _ (record { sfits = c .before .divider-value .ok }), c .before .divider-value .ensures, at-loop .loop .inv .1),
+    )
 
 returns : tie.Need-returns Inv-loop μ-loop
 unfolding interval
-returns c = let h = count-le _ _ _ (c .before .loop .inv .1) in let e : c .before .loop .j ≡ c .before .before .value-count .result = omega arith in let m : min (c .before .before .before .before .args .t) 3 ≡ c .before .before .before .before .args .t = omega arith in (rw (c .before .loop .inv .1, e, c .before .before .value-count .ensures .0, m, toZ-ofZ w32 _ (c .before .before .before .before .fits .x)), omega arith)
+returns c =
+    let after-value-count = c .before .before in
+    let entry = after-value-count .before .before in
+    let loop = c .before .loop in
+    let args = entry .args in
+    let h = count-le _ _ _ (loop .inv .1) in
+    let e : loop .j ≡ after-value-count .value-count .result = omega arith in
+    let m : min (args .t) 3 ≡ args .t = omega arith in
+    (rw (loop .inv .1, e, after-value-count .value-count .ensures .0, m, toZ-ofZ w32 _ (entry .fits .x)), omega arith)
 
 pub interval-spec : {M : Type 1} → statement M
 interval-spec =

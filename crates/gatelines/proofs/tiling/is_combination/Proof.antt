@@ -1,3 +1,4 @@
+-- `is_combination`: below divider t each interval is one of the divider.
 use borrow.Author.Needs.{needs}
 use native.Mathlib.Omega.{arith}
 use native.Mathlib.Numerals.{add-one}
@@ -23,11 +24,18 @@ loop-holds c = (search needs, refl)
 
 loop-again : tie.Need-loop-again Inv-loop μ-loop
 unfolding all
-loop-again c = let e : min (c .before .before .before .loop .t) 3 ≡ c .before .before .before .loop .t = omega arith in (search needs, rw (add-one, c .value-count .ensures .0, e, c .before .part .ensures, c .before .before .before .loop .inv .1))
+loop-again c =
+    let loop = c .before .before .before .loop in
+    let e : min (loop .t) 3 ≡ loop .t = omega arith in
+    (search needs, rw (add-one, c .value-count .ensures .0, e, c .before .part .ensures, loop .inv .1))
 
 returns : tie.Need-returns Inv-loop μ-loop
 unfolding isCombination
-returns c = let e : c .before .loop .t ≡ c .before .before .divider-count .result = omega arith in rw (c .before .loop .inv .1, e, c .before .before .divider-count .ensures .0)
+returns c =
+    let after-divider-count = c .before .before in
+    let loop = c .before .loop in
+    let e : loop .t ≡ after-divider-count .divider-count .result = omega arith in
+    rw (loop .inv .1, e, after-divider-count .divider-count .ensures .0)
 
 pub is-combination-spec : {M : Type 1} → statement M
 is-combination-spec =

@@ -1,3 +1,4 @@
+-- `part`: a digit of c to base 4, for each of the three dividers.
 use native.Mathlib.Omega.{arith}
 use mathlib.Core.Path.{_≡_}
 use Rattle.gatelines.proofs.tiling.part.Statement.{statement}

@@ -1,3 +1,4 @@
+-- `tiles`: the combinations below c are held once; more quadrants than combinations cannot tile.
 use borrow.Author.Needs.{needs}
 use borrow.Author.Tests.{not-true, not-false}
 use native.Mathlib.Omega.{arith}
@@ -20,7 +21,12 @@ abbrev μ-loop : tie.MeasureT-loop
 μ-loop line n c₀ c = n - c
 
 returns : tie.Need-returns Inv-loop μ-loop
-returns c = let f = fields (c .before .before .before .before .before .args .line .now) in let h : 4 ^ dividerCount f < quadrantCount f = rw (← c .before .before .before .divider-count .ensures .0, ← c .before .before .combinations .ensures, ← c .before .quadrant-count .ensures) (c .if1 .taken) in sym (many-fail f h)
+returns c =
+    let after-divider-count = c .before .before .before in
+    let f = fields (after-divider-count .before .before .args .line .now) in
+    let h : 4 ^ dividerCount f < quadrantCount f =
+    rw (← after-divider-count .divider-count .ensures .0, ← c .before .before .combinations .ensures, ← c .before .quadrant-count .ensures) (c .if1 .taken) in
+    sym (many-fail f h)
 
 loop-holds : tie.Need-loop-holds Inv-loop μ-loop
 unfolding all
@@ -28,14 +34,24 @@ loop-holds c = (search needs, refl)
 
 returns-2 : tie.Need-returns-2 Inv-loop μ-loop
 unfolding tiles
-returns-2 c = rw (← c .before .before .before .before .before .before .before .divider-count .ensures .0, ← c .before .before .before .before .before .before .combinations .ensures) (sym (all-stop (heldOnce (fields (c .before .before .before .before .before .before .before .before .before .args .line .now))) (c .before .before .before .before .before .before .combinations .result) (c .before .before .before .loop .c) (c .before .before .loop-test .taken) (sym (c .before .held-once .ensures) ∙ not-true _ (c .if2 .taken))))
+returns-2 c =
+    let at-loop = c .before .before .before in
+    let after-combinations = at-loop .before .before .before in
+    let entry = after-combinations .before .before .before in
+    rw (← after-combinations .before .divider-count .ensures .0, ← after-combinations .combinations .ensures)
+    (sym (all-stop (heldOnce (fields (entry .args .line .now))) (after-combinations .combinations .result) (at-loop .loop .c)
+    (c .before .before .loop-test .taken) (sym (c .before .held-once .ensures) ∙ not-true _ (c .if2 .taken))))
 
 loop-again : tie.Need-loop-again Inv-loop μ-loop
 loop-again c = (search needs, all-more _ _ (c .before .before .before .loop .inv .1) (sym (c .before .held-once .ensures) ∙ not-false _ (c .if2 .left)))
 
 returns-3 : tie.Need-returns-3 Inv-loop μ-loop
 unfolding tiles
-returns-3 c = let e : c .before .loop .c ≡ c .before .before .before .before .combinations .result = omega arith in rw (← c .before .before .before .before .before .divider-count .ensures .0, ← c .before .before .before .before .combinations .ensures, ← e) (sym (c .before .loop .inv .1))
+returns-3 c =
+    let after-combinations = c .before .before .before .before in
+    let loop = c .before .loop in
+    let e : loop .c ≡ after-combinations .combinations .result = omega arith in
+    rw (← after-combinations .before .divider-count .ensures .0, ← after-combinations .combinations .ensures, ← e) (sym (loop .inv .1))
 
 pub tiles-spec : {M : Type 1} → statement M
 tiles-spec =

@@ -1,3 +1,4 @@
+-- `dimension_word`: the number of a dimension is at most 8, so the cast keeps it.
 use native.Mathlib.Omega.{arith}
 use Prim.Native.Nat.{_≤_}
 use lib.ListN.{drop}
@@ -10,10 +11,20 @@ use Rattle.gatelines.proofs.words.dimension_word.Statement.{statement}
 use Rattle.gatelines.proofs.words.dimension_word.Tie as tie
 
 cast-result : tie.Need-cast-result
-cast-result c = let h : c .dimension-of .result ≤ 8 = omega (arith, c .before .before .before .pre, c .dimension-of .ensures, dimension-le (drop 1 (fields (c .before .before .before .args .head .now))) (c .before .before .before .args .x .now)) in search needs
+cast-result c =
+    let entry = c .before .before .before in
+    let args = entry .args in
+    let h : c .dimension-of .result ≤ 8 =
+    omega (arith, entry .pre, c .dimension-of .ensures, dimension-le (drop 1 (fields (args .head .now))) (args .x .now)) in
+    search needs
 
 returns : tie.Need-returns
-returns c = let h : c .dimension-of .result ≤ 8 = omega (arith, c .before .before .before .pre, c .dimension-of .ensures, dimension-le (drop 1 (fields (c .before .before .before .args .head .now))) (c .before .before .before .args .x .now)) in rw (toZ-pos w32 (c .dimension-of .result) (omega arith), c .dimension-of .ensures)
+returns c =
+    let entry = c .before .before .before in
+    let dimension-of = c .dimension-of in
+    let args = entry .args in
+    let h : dimension-of .result ≤ 8 = omega (arith, entry .pre, dimension-of .ensures, dimension-le (drop 1 (fields (args .head .now))) (args .x .now)) in
+    rw (toZ-pos w32 (dimension-of .result) (omega arith), dimension-of .ensures)
 
 pub dimension-word-spec : {M : Type 1} → statement M
 dimension-word-spec =

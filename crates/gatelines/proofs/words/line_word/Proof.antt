@@ -1,3 +1,4 @@
+-- `line_word`: the word that the rule of the field gives.
 use mir.Syntax.{w32}
 use mir.ValLaws.{toZ-ofZ}
 use Rattle.text.specs.Lines.{fields}
@@ -9,14 +10,28 @@ use Rattle.gatelines.proofs.words.line_word.Statement.{statement}
 use Rattle.gatelines.proofs.words.line_word.Tie as tie
 
 add-rule-of : tie.Need-add-rule-of
-add-rule-of c = let h = fields-length (c .before .before .args .line .now) in let g = c .before .before .pre .1 in search needs
+add-rule-of c =
+    let h = fields-length (c .before .before .args .line .now) in
+    let g = c .before .before .pre .1 in
+    search needs
 
 add-field : tie.Need-add-field
-add-field c = let h = fields-length (c .before .before .before .args .line .now) in let g = c .before .before .before .pre .1 in search needs
+add-field c =
+    let h = fields-length (c .before .before .before .args .line .now) in
+    let g = c .before .before .before .pre .1 in
+    search needs
 
 returns : tie.Need-returns
 unfolding lineWord
-returns c = rw (toZ-ofZ w32 _ (record { sfits = c .rule-word .ok }), c .rule-word .ensures, c .before .before .rule-of .ensures, c .before .field .ensures, rule-body (c .before .before .before .before .before .args .kind) (fields (c .before .before .before .before .before .args .line .now)) (c .before .before .before .before .before .args .i))
+returns c =
+    let args = c .before .before .before .before .before .args in
+    rw (
+      toZ-ofZ w32 _ (record { sfits = c .rule-word .ok }),
+      c .rule-word .ensures,
+      c .before .before .rule-of .ensures,
+      c .before .field .ensures,
+      rule-body (args .kind) (fields (args .line .now)) (args .i),
+    )
 
 pub line-word-spec : {M : Type 1} → statement M
 line-word-spec =

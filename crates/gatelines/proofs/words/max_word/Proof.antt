@@ -1,3 +1,4 @@
+-- `max_word`: `*` stands for the end of the scale.
 use mir.Syntax.{w32}
 use mir.ValLaws.{toZ-ofZ}
 use Rattle.gates.specs.Meaning.{maxWord}

@@ -1,3 +1,4 @@
+-- `min_word`: `*` stands for the beginning of the scale.
 use mir.Syntax.{w32}
 use mir.ValLaws.{toZ-ofZ}
 use Rattle.gates.specs.Meaning.{minWord}

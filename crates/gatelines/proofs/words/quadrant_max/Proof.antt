@@ -1,3 +1,4 @@
+-- `quadrant_max`: `*` stands for the end of the scale; else the upper end of the interval.
 use mir.Syntax.{w32}
 use mir.ValLaws.{toZ-ofZ}
 use native.Mathlib.Omega.{arith}
@@ -14,14 +15,30 @@ unfolding quadrantMax
 returns c = rw (← c .before .before .representative .ensures, ← c .before .is-star .ensures, c .if1 .taken)
 
 interval-requires : tie.Need-interval-requires
-interval-requires c κs = omega (arith, c .before .before .before .before .before .pre .1, count-small (fieldAt (fields (c .before .before .before .before .before .args .line .now)) 3))
+interval-requires c κs =
+    let entry = c .before .before .before .before .before in
+    omega (arith, entry .pre .1, count-small (fieldAt (fields (entry .args .line .now)) 3))
 
 upper-end-requires : tie.Need-upper-end-requires
-upper-end-requires c κs = (omega (arith, c .before .before .before .before .before .before .pre .1, count-small (fieldAt (fields (c .before .before .before .before .before .before .args .line .now)) 3)), c .interval .ensures .1)
+upper-end-requires c κs =
+    let entry = c .before .before .before .before .before .before in
+    (omega (arith, entry .pre .1, count-small (fieldAt (fields (entry .args .line .now)) 3)), c .interval .ensures .1)
 
 returns-2 : tie.Need-returns-2
 unfolding quadrantMax
-returns-2 c = rw (← c .before .before .before .before .before .representative .ensures, ← c .before .before .before .before .is-star .ensures, c .before .before .before .if1 .left, toZ-ofZ w32 _ (record { sfits = c .upper-end .ok }), c .upper-end .ensures, c .before .interval .ensures .0, toZ-ofZ w32 _ (record { sfits = c .before .before .value-of .ok }), c .before .before .value-of .ensures)
+returns-2 c =
+    let after-value-of = c .before .before in
+    let after-representative = after-value-of .before .before .before in
+    rw (
+      ← after-representative .representative .ensures,
+      ← after-value-of .before .before .is-star .ensures,
+      after-value-of .before .if1 .left,
+      toZ-ofZ w32 _ (record { sfits = c .upper-end .ok }),
+      c .upper-end .ensures,
+      c .before .interval .ensures .0,
+      toZ-ofZ w32 _ (record { sfits = after-value-of .value-of .ok }),
+      after-value-of .value-of .ensures,
+    )
 
 pub quadrant-max-spec : {M : Type 1} → statement M
 quadrant-max-spec =

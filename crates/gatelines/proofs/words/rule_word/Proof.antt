@@ -1,3 +1,4 @@
+-- `rule_word`: by the rule.
 use mir.Syntax.{w32}
 use mir.ValLaws.{toZ-ofZ}
 use borrow.Author.Needs.{needs}
