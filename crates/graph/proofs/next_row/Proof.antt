@@ -29,7 +29,16 @@ is-within-requires : tie.Need-is-within-requires Inv-loop μ-loop
 is-within-requires c κs = search needs
 
 returns : tie.Need-returns Inv-loop μ-loop
-returns c = sym (c .before .before .before .before .before .before .before .loop .inv .1 ∙ first-stop (held (c .before .before .before .before .before .before .before .before .args .t1 .bits) (c .before .before .before .before .before .before .before .before .args .set)) (c .before .before .before .before .before .before .before .before .args .n) (c .before .before .before .before .before .before .before .loop .r) (c .before .before .before .before .before .before .loop-test .taken) (held-not (c .before .before .before .before .before .before .before .before .args .t1 .bits) (c .before .before .before .before .before .before .before .before .args .set) (c .before .before .before .before .before .before .before .loop .r) _ _ _ (c .before .before .before .row-at .ensures) (c .before .before .has-bit .ensures) (c .before .is-within .ensures) (c .if1 .taken)))
+returns c =
+    let entry = c .before .before .before .before .before .before .before .before in
+    let t1 = entry .args .t1 .bits in
+    let set = entry .args .set in
+    let head = c .before .before .before .before .before .before .before .loop in
+    let loop-test = c .before .before .before .before .before .before .loop-test in
+    let row-at = c .before .before .before .row-at in
+    let has-bit = c .before .before .has-bit in
+    sym (head .inv .1 ∙ first-stop (held (t1) (set)) (entry .args .n) (head .r) (loop-test .taken)
+    (held-not (t1) (set) (head .r) _ _ _ (row-at .ensures) (has-bit .ensures) (c .before .is-within .ensures) (c .if1 .taken)))
 
 add-r : tie.Need-add-r Inv-loop μ-loop
 add-r c = search needs
@@ -38,10 +47,24 @@ loop-less : tie.Need-loop-less Inv-loop μ-loop
 loop-less c = search needs
 
 loop-again : tie.Need-loop-again Inv-loop μ-loop
-loop-again c = (search needs, c .before .before .before .before .before .before .before .loop .inv .1 ∙ first-more (held (c .before .before .before .before .before .before .before .before .args .t1 .bits) (c .before .before .before .before .before .before .before .before .args .set)) (c .before .before .before .before .before .before .before .before .args .n) (c .before .before .before .before .before .before .before .loop .r) (c .before .before .before .before .before .before .loop-test .taken) (held-still (c .before .before .before .before .before .before .before .before .args .t1 .bits) (c .before .before .before .before .before .before .before .before .args .set) (c .before .before .before .before .before .before .before .loop .r) _ _ _ (c .before .before .before .row-at .ensures) (c .before .before .has-bit .ensures) (c .before .is-within .ensures) (c .if1 .left)))
+loop-again c =
+    let entry = c .before .before .before .before .before .before .before .before in
+    let t1 = entry .args .t1 .bits in
+    let set = entry .args .set in
+    let head = c .before .before .before .before .before .before .before .loop in
+    let loop-test = c .before .before .before .before .before .before .loop-test in
+    let row-at = c .before .before .before .row-at in
+    let has-bit = c .before .before .has-bit in (
+      search needs,
+      head .inv .1 ∙ first-more (held (t1) (set)) (entry .args .n) (head .r) (loop-test .taken)
+          (held-still (t1) (set) (head .r) _ _ _ (row-at .ensures) (has-bit .ensures) (c .before .is-within .ensures) (c .if1 .left)),
+    )
 
 returns-2 : tie.Need-returns-2 Inv-loop μ-loop
-returns-2 c = sym (c .before .loop .inv .1 ∙ first-end (held (c .before .before .args .t1 .bits) (c .before .before .args .set)) (c .before .before .args .n) (c .before .loop .r) (c .loop-test .left))
+returns-2 c =
+    let entry = c .before .before in
+    let head = c .before .loop in
+    sym (head .inv .1 ∙ first-end (held (entry .args .t1 .bits) (entry .args .set)) (entry .args .n) (head .r) (c .loop-test .left))
 
 pub next-row-spec : {M : Type 1} → statement M
 next-row-spec =

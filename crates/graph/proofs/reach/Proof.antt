@@ -30,10 +30,26 @@ loop-less : tie.Need-loop-less Inv-loop μ-loop
 loop-less c = search needs
 
 loop-again : tie.Need-loop-again Inv-loop μ-loop
-loop-again c = (search needs, c .before .before .before .loop .inv .1, rw (c .round .ensures) (round-length (c .before .before .before .loop .r .bits) (c .before .before .before .loop .s) ∙ c .before .before .before .loop .inv .2), rw (c .round .ensures) (round-next (c .before .before .before .before .before .args .rows .bits) (c .before .before .before .loop .r .bits) (c .before .before .before .loop .s) (c .before .before .before .loop .inv .2 ∙ sym (c .before .before .before .loop .inv .1)) (c .before .before .before .loop .inv .3)))
+loop-again c =
+    let entry = c .before .before .before .before .before in
+    let head = c .before .before .before .loop in (
+      search needs,
+      head .inv .1,
+      rw (c .round .ensures) (round-length (head .r .bits) (head .s) ∙ head .inv .2),
+      rw (c .round .ensures)
+          (round-next (entry .args .rows .bits) (head .r .bits) (head .s) (head .inv .2 ∙ sym (head .inv .1)) (head .inv .3)),
+    )
 
 returns : tie.Need-returns Inv-loop μ-loop
-returns c = let h = c .loop-test .left in let i = c .before .loop .inv .0 in let e : c .before .loop .s ≡ c .before .before .at-most-64 .result = omega arith in λ a b. c .before .loop .inv .3 a b ∙ rw (e, c .before .before .at-most-64 .ensures) (rounds-past (c .before .before .before .args .rows .bits) 64 (c .before .before .before .args .n) a b (omega (arith, c .before .loop .inv .1)))
+returns c =
+    let entry = c .before .before .before in
+    let at-most-64 = c .before .before .at-most-64 in
+    let head = c .before .loop in
+    let h = c .loop-test .left in
+    let i = head .inv .0 in
+    let e : head .s ≡ at-most-64 .result = omega arith in
+    λ a b. head .inv .3 a b ∙ rw (e, at-most-64 .ensures) (rounds-past (entry .args .rows .bits) 64 (entry .args .n) a b
+    (omega (arith, head .inv .1)))
 
 pub reach-spec : {M : Type 1} → statement M
 reach-spec =

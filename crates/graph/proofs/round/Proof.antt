@@ -46,10 +46,25 @@ loop-less : tie.Need-loop-less Inv-loop μ-loop
 loop-less c = search needs
 
 loop-again : tie.Need-loop-again Inv-loop μ-loop
-loop-again c = let long : length (c .before .before .before .before .before .before .args .rows .now) ≡ 64 = c .before .before .before .before .before .before .pre in let h = c .before .before .loop-test .taken in (search needs, row-put (c .before .before .before .before .before .before .args .rows .now) (c .before .before .before .loop .rows) (c .before .before .before .before .before .before .args .s) (c .before .before .before .loop .i) _ _ (omega arith) (c .before .before .before .loop .inv .1) (c .before .before .before .before .row-at .ensures) (c .put-into .ensures))
+loop-again c =
+    let entry = c .before .before .before .before .before .before in
+    let rows = entry .args .rows .now in
+    let row-at = c .before .before .before .before .row-at in
+    let head = c .before .before .before .loop in
+    let loop-test = c .before .before .loop-test in
+    let long : length (rows) ≡ 64 = entry .pre in
+    let h = loop-test .taken in
+    (search needs, row-put (rows) (head .rows) (entry .args .s) (head .i) _ _ (omega arith) (head .inv .1) (row-at .ensures) (c .put-into .ensures))
 
 returns : tie.Need-returns Inv-loop μ-loop
-returns c = let long : length (c .before .before .before .before .args .rows .now) ≡ 64 = c .before .before .before .before .pre in let h = c .loop-test .left in let e : c .before .loop .i ≡ length (c .before .before .before .before .args .rows .now) = omega arith in c .before .loop .inv .1 ∙ rw e (all-written (joined (c .before .before .before .before .args .rows .now) (c .before .before .before .before .args .s)) (c .before .before .before .before .args .rows .now))
+returns c =
+    let entry = c .before .before .before .before in
+    let rows = entry .args .rows .now in
+    let head = c .before .loop in
+    let long : length (rows) ≡ 64 = entry .pre in
+    let h = c .loop-test .left in
+    let e : head .i ≡ length (rows) = omega arith in
+    head .inv .1 ∙ rw e (all-written (joined (rows) (entry .args .s)) (rows))
 
 pub round-spec : {M : Type 1} → statement M
 round-spec =

@@ -16,7 +16,12 @@ returns : tie.Need-returns
 returns c = search needs
 
 returns-2 : tie.Need-returns-2
-returns-2 c = let long : length (c .before .args .rows .now) ≡ 64 = c .before .pre in let h = c .if1 .left in sym (List·getD-eq-default (c .before .args .rows .now) 0 (omega arith))
+returns-2 c =
+    let entry = c .before in
+    let rows = entry .args .rows .now in
+    let long : length (rows) ≡ 64 = entry .pre in
+    let h = c .if1 .left in
+    sym (List·getD-eq-default (rows) 0 (omega arith))
 
 pub row-at-spec : {M : Type 1} → statement M
 row-at-spec = tie.close (tie.spec mul-result element-copy-out-result returns returns-2)

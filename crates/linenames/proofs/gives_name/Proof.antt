@@ -18,7 +18,10 @@ quad-count-requires c κs = search needs
 
 returns : tie.Need-returns
 unfolding givesName
-returns c = rw (c .quad-count .ensures, c .before .find-quadrant .ensures, c .before .before .same .ensures, c .before .before .before .field .ensures)
+returns c =
+    let field = c .before .before .before .field in
+    let same = c .before .before .same in
+    rw (c .quad-count .ensures, c .before .find-quadrant .ensures, same .ensures, field .ensures)
 
 pub gives-name-spec : {M : Type 1} → statement M
 gives-name-spec =

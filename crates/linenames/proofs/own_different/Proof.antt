@@ -30,7 +30,14 @@ new-quadrant-requires c κs = search needs
 
 returns : tie.Need-returns Inv-loop μ-loop
 unfolding ownDifferent
-returns c = let f = fields (c .before .before .before .before .before .before .args .line .now) in sym (all-stop (newQuadrant f) (quadCount f) (c .before .before .before .loop .q) (rw (← c .before .before .before .before .quad-count .ensures) (c .before .before .loop-test .taken)) (sym (c .before .new-quadrant .ensures) ∙ not-true _ (c .if1 .taken)))
+returns c =
+    let entry = c .before .before .before .before .before .before in
+    let quad-count = c .before .before .before .before .quad-count in
+    let head = c .before .before .before .loop in
+    let loop-test = c .before .before .loop-test in
+    let f = fields (entry .args .line .now) in
+    sym (all-stop (newQuadrant f) (quadCount f) (head .q) (rw (← quad-count .ensures) (loop-test .taken))
+    (sym (c .before .new-quadrant .ensures) ∙ not-true _ (c .if1 .taken)))
 
 add-q : tie.Need-add-q Inv-loop μ-loop
 add-q c = search needs
@@ -39,11 +46,21 @@ loop-less : tie.Need-loop-less Inv-loop μ-loop
 loop-less c = search needs
 
 loop-again : tie.Need-loop-again Inv-loop μ-loop
-loop-again c = let f = fields (c .before .before .before .before .before .before .args .line .now) in (search needs, all-more (newQuadrant f) (c .before .before .before .loop .q) (c .before .before .before .loop .inv .1) (sym (c .before .new-quadrant .ensures) ∙ not-false _ (c .if1 .left)))
+loop-again c =
+    let entry = c .before .before .before .before .before .before in
+    let head = c .before .before .before .loop in
+    let f = fields (entry .args .line .now) in
+    (search needs, all-more (newQuadrant f) (head .q) (head .inv .1) (sym (c .before .new-quadrant .ensures) ∙ not-false _ (c .if1 .left)))
 
 returns-2 : tie.Need-returns-2 Inv-loop μ-loop
 unfolding ownDifferent
-returns-2 c = let h = c .loop-test .left in let i = c .before .loop .inv .0 in let e : c .before .before .quad-count .result ≡ c .before .loop .q = omega arith in sym (rw (← c .before .before .quad-count .ensures, e) (c .before .loop .inv .1))
+returns-2 c =
+    let quad-count = c .before .before .quad-count in
+    let head = c .before .loop in
+    let h = c .loop-test .left in
+    let i = head .inv .0 in
+    let e : quad-count .result ≡ head .q = omega arith in
+    sym (rw (← quad-count .ensures, e) (head .inv .1))
 
 pub own-different-spec : {M : Type 1} → statement M
 own-different-spec =

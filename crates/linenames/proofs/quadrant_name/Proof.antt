@@ -13,7 +13,9 @@ field-requires : tie.Need-field-requires
 field-requires c κs = search needs
 
 returns : tie.Need-returns
-returns c = c .field .ensures ∙ quadrant-read (fields (c .before .before .before .args .line .now)) (c .before .before .before .args .q) _ (c .before .quadrant-at .ensures)
+returns c =
+    let entry = c .before .before .before in
+    c .field .ensures ∙ quadrant-read (fields (entry .args .line .now)) (entry .args .q) _ (c .before .quadrant-at .ensures)
 
 pub quadrant-name-spec : {M : Type 1} → statement M
 quadrant-name-spec = tie.close (tie.spec quadrant-at-requires field-requires returns)

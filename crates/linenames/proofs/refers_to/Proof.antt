@@ -33,7 +33,18 @@ names-region-requires : tie.Need-names-region-requires Inv-loop μ-loop
 names-region-requires c κs = search needs
 
 returns : tie.Need-returns Inv-loop μ-loop
-returns c = let f = fields (c .before .before .before .before .before .before .before .before .before .args .line .now) in let g = fields (c .before .before .before .before .before .before .before .before .before .args .other .now) in let j = c .before .before .before .before .before .loop in refers-found f g (c .before .before .before .before .before .before .reference-end .ensures .0) (j .inv .2 ∙ first-stop (passesBy f g) _ (j .k) (c .before .before .before .before .loop-test .taken) (passes-not f g (j .k) (c .before .before .before .has-reference .ensures) (c .before .before .reference .ensures) (c .before .names-region .ensures) (c .if1 .taken))) (c .before .before .before .before .loop-test .taken)
+returns c =
+    let entry = c .before .before .before .before .before .before .before .before .before in
+    let reference-end = c .before .before .before .before .before .before .reference-end in
+    let head = c .before .before .before .before .before .loop in
+    let loop-test = c .before .before .before .before .loop-test in
+    let has-reference = c .before .before .before .has-reference in
+    let reference = c .before .before .reference in
+    let f = fields (entry .args .line .now) in
+    let g = fields (entry .args .other .now) in
+    let j = head in
+    refers-found f g (reference-end .ensures .0) (j .inv .2 ∙ first-stop (passesBy f g) _ (j .k) (loop-test .taken)
+    (passes-not f g (j .k) (has-reference .ensures) (reference .ensures) (c .before .names-region .ensures) (c .if1 .taken))) (loop-test .taken)
 
 add-k : tie.Need-add-k Inv-loop μ-loop
 add-k c = search needs
@@ -42,10 +53,29 @@ loop-less : tie.Need-loop-less Inv-loop μ-loop
 loop-less c = search needs
 
 loop-again : tie.Need-loop-again Inv-loop μ-loop
-loop-again c = let f = fields (c .before .before .before .before .before .before .before .before .before .args .line .now) in let g = fields (c .before .before .before .before .before .before .before .before .before .args .other .now) in let j = c .before .before .before .before .before .loop in (search needs, search needs, j .inv .2 ∙ first-more (passesBy f g) _ (j .k) (c .before .before .before .before .loop-test .taken) (passes-still f g (j .k) (c .before .before .before .has-reference .ensures) (c .before .before .reference .ensures) (c .before .names-region .ensures) (c .if1 .left)))
+loop-again c =
+    let entry = c .before .before .before .before .before .before .before .before .before in
+    let head = c .before .before .before .before .before .loop in
+    let loop-test = c .before .before .before .before .loop-test in
+    let has-reference = c .before .before .before .has-reference in
+    let reference = c .before .before .reference in
+    let f = fields (entry .args .line .now) in
+    let g = fields (entry .args .other .now) in
+    let j = head in (
+      search needs,
+      search needs,
+      j .inv .2 ∙ first-more (passesBy f g) _ (j .k) (loop-test .taken)
+          (passes-still f g (j .k) (has-reference .ensures) (reference .ensures) (c .before .names-region .ensures) (c .if1 .left)),
+    )
 
 returns-2 : tie.Need-returns-2 Inv-loop μ-loop
-returns-2 c = let f = fields (c .before .before .before .before .before .args .line .now) in let g = fields (c .before .before .before .before .before .args .other .now) in let j = c .before .loop in refers-none f g (c .before .before .reference-end .ensures .0) (j .inv .2 ∙ first-end (passesBy f g) _ (j .k) (c .loop-test .left)) (c .loop-test .left)
+returns-2 c =
+    let entry = c .before .before .before .before .before in
+    let reference-end = c .before .before .reference-end in
+    let f = fields (entry .args .line .now) in
+    let g = fields (entry .args .other .now) in
+    let j = c .before .loop in
+    refers-none f g (reference-end .ensures .0) (j .inv .2 ∙ first-end (passesBy f g) _ (j .k) (c .loop-test .left)) (c .loop-test .left)
 
 pub refers-to-spec : {M : Type 1} → statement M
 refers-to-spec =

@@ -25,7 +25,10 @@ gives-name-requires : tie.Need-gives-name-requires Inv-loop μ-loop
 gives-name-requires c κs = search needs
 
 returns : tie.Need-returns Inv-loop μ-loop
-returns c = shared-gate (fields (c .before .before .before .before .before .args .line .now)) (fields (c .before .before .before .before .before .args .other .now)) (c .before .before .field .ensures) (c .before .gives-name .ensures) (c .if1 .taken)
+returns c =
+    let entry = c .before .before .before .before .before in
+    let field = c .before .before .field in
+    shared-gate (fields (entry .args .line .now)) (fields (entry .args .other .now)) (field .ensures) (c .before .gives-name .ensures) (c .if1 .taken)
 
 quad-count-requires : tie.Need-quad-count-requires Inv-loop μ-loop
 quad-count-requires c κs = search needs
@@ -41,7 +44,20 @@ gives-name-requires-2 : tie.Need-gives-name-requires-2 Inv-loop μ-loop
 gives-name-requires-2 c κs = search needs
 
 returns-2 : tie.Need-returns-2 Inv-loop μ-loop
-returns-2 c = let f = fields (c .before .before .before .before .before .before .before .before .before .before .before .args .line .now) in let g = fields (c .before .before .before .before .before .before .before .before .before .before .before .args .other .now) in sym (shared-rest f g (c .before .before .before .before .before .before .before .before .field .ensures) (c .before .before .before .before .before .before .before .gives-name .ensures) (c .before .before .before .before .before .before .if1 .left) ∙ any-stop (sharesQuadrant f g) (quadCount f) (c .before .before .before .before .loop .q) (rw (← c .before .before .before .before .before .quad-count .ensures) (c .before .before .before .loop-test .taken)) (shared-is f (c .before .before .before .before .loop .q) g (c .before .before .quadrant-name .ensures) (c .before .gives-name2 .ensures) (c .if2 .taken)))
+returns-2 c =
+    let entry = c .before .before .before .before .before .before .before .before .before .before .before in
+    let field = c .before .before .before .before .before .before .before .before .field in
+    let gives-name = c .before .before .before .before .before .before .before .gives-name in
+    let if1 = c .before .before .before .before .before .before .if1 in
+    let quad-count = c .before .before .before .before .before .quad-count in
+    let head = c .before .before .before .before .loop in
+    let loop-test = c .before .before .before .loop-test in
+    let quadrant-name = c .before .before .quadrant-name in
+    let f = fields (entry .args .line .now) in
+    let g = fields (entry .args .other .now) in
+    sym (shared-rest f g (field .ensures) (gives-name .ensures) (if1 .left)
+    ∙ any-stop (sharesQuadrant f g) (quadCount f) (head .q) (rw (← quad-count .ensures) (loop-test .taken))
+    (shared-is f (head .q) g (quadrant-name .ensures) (c .before .gives-name2 .ensures) (c .if2 .taken)))
 
 add-q : tie.Need-add-q Inv-loop μ-loop
 add-q c = search needs
@@ -50,10 +66,31 @@ loop-less : tie.Need-loop-less Inv-loop μ-loop
 loop-less c = search needs
 
 loop-again : tie.Need-loop-again Inv-loop μ-loop
-loop-again c = let f = fields (c .before .before .before .before .before .before .before .before .before .before .before .args .line .now) in let g = fields (c .before .before .before .before .before .before .before .before .before .before .before .args .other .now) in (search needs, any-more (sharesQuadrant f g) (c .before .before .before .before .loop .q) (c .before .before .before .before .loop .inv .1) (shared-is f (c .before .before .before .before .loop .q) g (c .before .before .quadrant-name .ensures) (c .before .gives-name2 .ensures) (c .if2 .left)))
+loop-again c =
+    let entry = c .before .before .before .before .before .before .before .before .before .before .before in
+    let head = c .before .before .before .before .loop in
+    let quadrant-name = c .before .before .quadrant-name in
+    let f = fields (entry .args .line .now) in
+    let g = fields (entry .args .other .now) in (
+      search needs,
+      any-more (sharesQuadrant f g) (head .q) (head .inv .1)
+          (shared-is f (head .q) g (quadrant-name .ensures) (c .before .gives-name2 .ensures) (c .if2 .left)),
+    )
 
 returns-3 : tie.Need-returns-3 Inv-loop μ-loop
-returns-3 c = let f = fields (c .before .before .before .before .before .before .before .before .args .line .now) in let g = fields (c .before .before .before .before .before .before .before .before .args .other .now) in let h = c .loop-test .left in let i = c .before .loop .inv .0 in let e : c .before .before .quad-count .result ≡ c .before .loop .q = omega arith in sym (shared-rest f g (c .before .before .before .before .before .field .ensures) (c .before .before .before .before .gives-name .ensures) (c .before .before .before .if1 .left) ∙ rw (← c .before .before .quad-count .ensures, e) (c .before .loop .inv .1))
+returns-3 c =
+    let entry = c .before .before .before .before .before .before .before .before in
+    let field = c .before .before .before .before .before .field in
+    let gives-name = c .before .before .before .before .gives-name in
+    let if1 = c .before .before .before .if1 in
+    let quad-count = c .before .before .quad-count in
+    let head = c .before .loop in
+    let f = fields (entry .args .line .now) in
+    let g = fields (entry .args .other .now) in
+    let h = c .loop-test .left in
+    let i = head .inv .0 in
+    let e : quad-count .result ≡ head .q = omega arith in
+    sym (shared-rest f g (field .ensures) (gives-name .ensures) (if1 .left) ∙ rw (← quad-count .ensures, e) (head .inv .1))
 
 pub shares-name-spec : {M : Type 1} → statement M
 shares-name-spec =
