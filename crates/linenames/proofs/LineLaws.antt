@@ -184,7 +184,9 @@ module _ (head fs : List (List ℕ)) where
   operands-in Not = refl
   operands-in Unknown = refl
 
-  references-listed : gateReferences (gateOf head fs) ≡ parentNames (parentOf (fieldAt fs 2)) ++ tab (λ j. operandName (fieldAt fs (3 + j))) (referenceEnd fs - 3)
+  -- the parent's name, then the operands'
+  pub references-listed : gateReferences (gateOf head fs)
+      ≡ parentNames (parentOf (fieldAt fs 2)) ++ tab (λ j. operandName (fieldAt fs (3 + j))) (referenceEnd fs - 3)
   unfolding gateOf referenceEnd
   references-listed = ap (λ (l : List Name). parentNames (parentOf (fieldAt fs 2)) ++ l) (operands-in (lineKind fs))
 
