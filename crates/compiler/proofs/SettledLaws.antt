@@ -24,10 +24,10 @@ use Rattle.tables.proofs.ListLaws.{not-not, index-of}
 use Rattle.tables.proofs.RuleLaws.{Unrefused as Held, rules-hold}
 use Rattle.tables.proofs.Acceptance.{not-refused, unless-passed}
 use Rattle.tables.proofs.CompileLaws.{head-width}
-use Rattle.resolve.specs.Inner.NamedVerdict.{GoodLines, namesVerdict}
+use Rattle.tablecheck.specs.Inner.Names.{GoodLines}
 use Rattle.resolve.specs.Inner.Reading.{fieldsAt, gatesAt}
 use Rattle.resolve.proofs.StartLaws.{Indexed, gates-read}
-use Rattle.tablecheck.specs.Inner.TextVerdict.{textVerdict}
+use Rattle.tablecheck.specs.Inner.TextVerdict.{namesVerdict, linesVerdict, textVerdict}
 use Rattle.tableregions.specs.Inner.Settled.{Settled}
 use Rattle.compiler.specs.Inner.Unrefused.{Unrefused}
 
@@ -47,7 +47,7 @@ lines-regions head (l ∷ ls) h =
 module _ (text : List ℕ) (u : Unrefused text) where
   -- what the verdict says of each test
   tests : (headGood text ≡ true) × (GoodLines text) × (Held (gates text))
-  unfolding textVerdict namesVerdict
+  unfolding textVerdict linesVerdict namesVerdict
   tests =
       let t = gates text in
       let a = not-refused (ltb 32768 (length text)) 1 0 _ (omega arith) (sym (u passed)) in

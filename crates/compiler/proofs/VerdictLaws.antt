@@ -2,7 +2,7 @@
 use mathlib.Core.Path.{_≡_, refl, sym, ap, _∙_}
 use mathlib.Core.Bool.{Bool, true, false, not, cond}
 use mathlib.Core.List.{List, []}
-use Prim.Native.Nat.{ℕ, _+_, _-_, _<_, _≤_, min}
+use Prim.Native.Nat.{ℕ, _+_, _<_, _≤_}
 use native.Mathlib.Omega.{arith}
 use lib.Dec.{ltb, eqb}
 use lib.IntN.{ℤ}
@@ -10,79 +10,23 @@ use lib.ListN.{length, getD}
 use borrow.Author.Tests.{lt-ltb, le-ltb, eqb-true, ne-eqb}
 use Rattle.plans.specs.Indices.{firstBad}
 use Rattle.plans.specs.Refusals.{Verdict, passed, refused}
-use Rattle.text.specs.Numbers.{isNumber, numberValue, within}
-use Rattle.text.specs.Names.{isName}
 use Rattle.text.specs.Lines.{endsInLF, fields}
 use Rattle.text.specs.Output.{over}
-use Rattle.text.proofs.BoundedLaws.{least-above}
 use Rattle.text.proofs.OutputLaws.{over-length}
-use Rattle.gates.specs.declared.LineKind.{LineKind}
-use Rattle.gates.specs.declared.Rule.{Rule}
-use Rattle.gates.specs.declared.Rule.the-variants.{Free, Name, Parent, Operand, Dimension, Coordinate, Entry, Distance, Min, Max, Value, Rising, Representative}
-use Rattle.gates.specs.Kinds.{lineKind, isUnknown, isStar, isParent, isOperand}
-use Rattle.gates.specs.Rules.{noRefusal, unless, numberRefusal, optionalRefusal, uncrossed, earned, fieldRefusal, fieldsRefusal, ruleOf}
-use Rattle.gates.specs.Refusal.{kindRefusal, lineRefusal, shapeGood, matrixPasses, tilingPasses}
 use Rattle.gates.specs.Gate.{Gate, regions}
 use Rattle.tables.specs.Head.{dimensions, headGood, gateLines, gates}
 use Rattle.tables.specs.Steps.{planWords}
 use Rattle.tables.specs.Refusals.{unlessLine, refusalAt, lineGood, always, uncrowded, unrepeated, living, uncircled, sizeVerdict, gatesVerdict, tableVerdict}
 use Rattle.tables.proofs.Acceptance.{Accepted, passed-accepted}
 use Rattle.tables.specs.Compile.{Compiling, planOf, compiled, uncompiled, compileOf}
-use Rattle.resolve.specs.Inner.NamedVerdict.{namesVerdict}
-use Rattle.resolve.specs.declared.Named.the-variants.{Fine}
 use Rattle.tablecheck.specs.declared.Answer.{Answer}
-use Rattle.tablecheck.specs.declared.Answer.the-variants.{Names}
-use Rattle.tablecheck.specs.Inner.TextVerdict.{answered, textVerdict}
+use Rattle.tablecheck.specs.declared.Answer.the-variants.{Fine}
+use Rattle.tablecheck.specs.Inner.TextVerdict.{answered, namesVerdict, linesVerdict, textVerdict}
 use Rattle.tablecheck.proofs.CursorLaws.{table-verdict}
+use Rattle.tablecheck.proofs.LineNumberLaws.{line-listed}
 use Rattle.compiler.specs.Inner.Unrefused.{Unrefused}
 
 -- ---- the number of a refusal is never 0
-
-either : (b : Bool) (x y : ℕ) → 4 ≤ x → 4 ≤ y → 4 ≤ cond b x y
-either true x y h k = h
-either false x y h k = k
-
-lesser : (x y : ℕ) → 4 ≤ x → 4 ≤ y → 4 ≤ min x y
-lesser x y h k = omega arith
-
-unless-named : (b : Bool) (k : ℕ) → 4 ≤ k → 4 ≤ unless b k
-unless-named b k h = either b noRefusal k (omega arith) h
-
-number-named : (lo hi : ℤ) (x : List ℕ) → 4 ≤ numberRefusal lo hi x
-unfolding numberRefusal
-number-named lo hi x = either (isNumber x) (unless (within lo hi (numberValue x)) 8) 7 (unless-named (within lo hi (numberValue x)) 8 (omega arith)) (omega arith)
-
-optional-named : (lo hi : ℤ) (x : List ℕ) → 4 ≤ optionalRefusal lo hi x
-unfolding optionalRefusal
-optional-named lo hi x = either (isStar x) noRefusal (numberRefusal lo hi x) (omega arith) (number-named lo hi x)
-
-earned-named : (rule : Rule) (b : Bool) (y x : List ℕ) → 4 ≤ earned rule b y x
-earned-named Free b y x = omega arith
-earned-named Name b y x = unless-named (isName x) 6 (omega arith)
-earned-named Parent b y x = unless-named (isParent x) 6 (omega arith)
-earned-named Operand b y x = unless-named (isOperand x) 6 (omega arith)
-earned-named Dimension b y x = unless-named (b) 9 (omega arith)
-earned-named Coordinate b y x = number-named _ _ x
-earned-named Entry b y x = number-named _ _ x
-earned-named Distance b y x = number-named _ _ x
-earned-named Min b y x = optional-named _ _ x
-earned-named Max b y x = lesser _ _ (optional-named _ _ x) (unless-named (uncrossed y x) 10 (omega arith))
-earned-named Value b y x = number-named _ _ x
-earned-named Rising b y x = lesser _ _ (number-named _ _ x) (unless-named (uncrossed y x) 10 (omega arith))
-earned-named Representative b y x = optional-named _ _ x
-
-fields-named : (head : List (List ℕ)) (kind : LineKind) (fs : List (List ℕ)) → 4 ≤ fieldsRefusal head kind fs
-unfolding fieldsRefusal fieldRefusal
-fields-named head kind fs = least-above (fieldRefusal head kind fs) noRefusal (length fs) 4 (omega arith) (λ i h. earned-named (ruleOf kind fs i) _ _ _)
-
-line-named : (head fs : List (List ℕ)) → 4 ≤ lineRefusal head fs
-unfolding lineRefusal kindRefusal
-line-named head fs =
-    let kind = lineKind fs in
-    either (isUnknown kind) 4 _ (omega arith)
-    (either (not (shapeGood kind (length fs - 3) fs)) 5 _ (omega arith)
-    (either (ltb (fieldsRefusal head kind fs) noRefusal) (fieldsRefusal head kind fs) _ (fields-named head kind fs)
-    (either (not (matrixPasses kind fs)) 11 _ (omega arith) (either (not (tilingPasses kind fs)) 12 noRefusal (omega arith) (omega arith)))))
 
 named-cond : (b : Bool) (v w : Verdict) → 1 ≤ v .number → 1 ≤ w .number → 1 ≤ cond b v w .number
 named-cond true v w h k = h
@@ -93,14 +37,14 @@ unfolding unlessLine
 unless-line-named number good k v h l = named-cond (ltb (firstBad good 0 k) k) (refused (number (firstBad good 0 k)) (firstBad good 0 k + 2)) v (h (firstBad good 0 k)) l
 
 text-named : (text : List ℕ) (v : Verdict) → 1 ≤ v .number → 1 ≤ textVerdict text v .number
-unfolding textVerdict namesVerdict refusalAt
+unfolding textVerdict linesVerdict namesVerdict refusalAt
 text-named text v l =
     let t = gates text in
     named-cond (ltb 32768 (length text)) (refused 1 0) _ (omega arith)
     (named-cond (not (endsInLF text)) (refused 2 0) _ (omega arith)
     (named-cond (not (headGood text)) (refused 3 1) _ (omega arith)
     (unless-line-named (refusalAt (dimensions text) (gateLines text)) (lineGood (dimensions text) (gateLines text)) (length (gateLines text)) _
-    (λ i. omega (arith, line-named (dimensions text) (fields (getD (gateLines text) i []))))
+    (λ i. omega (arith, line-listed (dimensions text) (fields (getD (gateLines text) i [])) .0))
     (unless-line-named (always 13) (uncrowded t) (length t) _ (λ i. omega arith)
     (unless-line-named (always 14) (unrepeated t) (length t) _ (λ i. omega arith)
     (unless-line-named (always 15) (living t) (length t) _ (λ i. omega arith)
@@ -141,7 +85,7 @@ verdict-numbered slice text =
     (cond-numbered (not (endsInLF text)) 2 0 _ (omega arith)
     (cond-numbered (not (headGood text)) 3 1 _ (omega arith)
     (line-numbered (refusalAt (dimensions text) (gateLines text)) (lineGood (dimensions text) (gateLines text)) (length (gateLines text)) _
-    (λ i. omega (arith, line-named (dimensions text) (fields (getD (gateLines text) i []))))
+    (λ i. omega (arith, line-listed (dimensions text) (fields (getD (gateLines text) i [])) .0))
     (gates-numbered slice (length (dimensions text)) (gates text)))))
 
 pub number-accepted : (slice : ℕ) (text : List ℕ) → tableVerdict slice text .number ≡ 0 → Accepted slice text
@@ -185,7 +129,7 @@ module _ (text : List ℕ) (slice : List ℤ) {a : Answer} (h : (v : Verdict) �
   pub refused-as : {x : Answer} → a ≡ x → (number place : ℕ) → ((v : Verdict) → answered x v ≡ refused number place) → uncompiled slice (refused number place) ≡ compileOf text slice
   refused-as e number place f = refused-16 text slice number place (λ v. sym (f v) ∙ ap (λ (y : Answer). answered y v) (sym e) ∙ h v)
 
-  pub unrefused-as : a ≡ Names Fine → Unrefused text
+  pub unrefused-as : a ≡ Fine → Unrefused text
   unrefused-as e v = ap (λ (y : Answer). answered y v) (sym e) ∙ h v
 
 -- ---- the words written are words of the slice

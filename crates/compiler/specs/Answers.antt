@@ -4,6 +4,7 @@ use mathlib.Core.List.{List}
 use Prim.Native.Nat.{ℕ}
 use lib.IntN.{ℤ}
 use Rattle.plans.specs.Refusals.{Verdict, passed, refused}
+use Rattle.gates.specs.LineRefusals.{lineNumber}
 use Rattle.tables.specs.Compile.{Compiling, uncompiled}
 use Rattle.tablecheck.specs.Inner.TextVerdict.{textVerdict}
 use Rattle.compiler.specs.declared.Refusal.{Refusal}
@@ -16,7 +17,7 @@ abbrev pub tableRefusal : Refusal → Verdict
 tableRefusal LongTable = refused 1 0
 tableRefusal OpenLine = refused 2 0
 tableRefusal BadHead = refused 3 1
-tableRefusal (BadLine number line) = refused number line
+tableRefusal (BadLine refusal line) = refused (lineNumber refusal) line
 tableRefusal (Crowded line) = refused 13 line
 tableRefusal (TwinName line) = refused 14 line
 tableRefusal (DeadReference line) = refused 15 line

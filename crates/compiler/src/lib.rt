@@ -2,22 +2,22 @@
 ghost use mathlib.Core.Path.{_≡_};
 ghost use Prim.Native.Nat.{_≤_, _<_};
 ghost use lib.ListN.{length};
-ghost use Rattle.text.specs.Output.{over, Writes};
-ghost use Rattle.text.specs.Inner.Writing.{overFrom};
-ghost use Rattle.gates.specs.Gate.{regions};
+ghost use Rattle.text.specs.Output.{Writes};
+ghost use Rattle.text.specs.Inner.Writing.{WritesFrom};
+ghost use Rattle.gates.specs.LineRefusals.{lineNumber};
 ghost use Rattle.tables.specs.Head.{dimensions};
 ghost use Rattle.tables.specs.Steps.{order, stepWords, stepsWords, planWords};
 ghost use Rattle.tables.specs.Compile.{compileOf};
-ghost use Rattle.resolve.specs.Inner.Reading.{gatesAt};
+ghost use Rattle.resolve.specs.Inner.Reading.{regionsAt};
 ghost use Rattle.tableregions.specs.Inner.Settled.{Settled};
 ghost use Rattle.compiler.specs.Answers.{tableRefusal, compiling};
 ghost use Rattle.compiler.specs.Inner.Unrefused.{Unrefused};
 use gatefields::fields::minus;
 use gatefields::fields::name_count;
+use gates::LineRefusal;
 use graph::next_row;
 use heads::head_line;
 use plans::bits::with_bit;
-use resolve::Named;
 use resolve::Starts;
 use resolve::region_total;
 use resolve::starts_of;
@@ -35,7 +35,7 @@ pub enum Refusal {
     OpenLine,
     BadHead,
     // 4 to 12
-    BadLine { number: u8, line: usize },
+    BadLine { refusal: LineRefusal, line: usize },
     Crowded { line: usize },
     TwinName { line: usize },
     DeadReference { line: usize },
@@ -50,6 +50,22 @@ pub enum Compiled {
     Refused(Refusal),
 }
 
+fn line_number(r: LineRefusal) -> u64
+    ensures { λ x. ⌜ x ≡ lineNumber r ⌝ }
+{
+    match r {
+        LineRefusal::UnknownKind => 4,
+        LineRefusal::WrongShape => 5,
+        LineRefusal::BadName => 6,
+        LineRefusal::BadNumber => 7,
+        LineRefusal::OffScale => 8,
+        LineRefusal::BadDimension => 9,
+        LineRefusal::CrossedBounds => 10,
+        LineRefusal::BadMatrix => 11,
+        LineRefusal::NoTiling => 12,
+    }
+}
+
 pub fn number_of(r: Refusal) -> u64
     ensures { λ x. ⌜ x ≡ tableRefusal r .number ⌝ }
 {
@@ -57,7 +73,7 @@ pub fn number_of(r: Refusal) -> u64
         Refusal::LongTable => 1,
         Refusal::OpenLine => 2,
         Refusal::BadHead => 3,
-        Refusal::BadLine { number, line: _ } => number as u64,
+        Refusal::BadLine { refusal, line: _ } => line_number(refusal),
         Refusal::Crowded { line: _ } => 13,
         Refusal::TwinName { line: _ } => 14,
         Refusal::DeadReference { line: _ } => 15,
@@ -74,7 +90,7 @@ pub fn place_of(r: Refusal) -> u64
         Refusal::LongTable => 0,
         Refusal::OpenLine => 0,
         Refusal::BadHead => 1,
-        Refusal::BadLine { number: _, line } => line as u64,
+        Refusal::BadLine { refusal: _, line } => line as u64,
         Refusal::Crowded { line } => line as u64,
         Refusal::TwinName { line } => line as u64,
         Refusal::DeadReference { line } => line as u64,
@@ -94,8 +110,8 @@ fn put_step_from(
     r: usize,
 ) -> usize
     requires { ⌜ Settled (now text) (starts .at) n ⌝ }
-    requires { ⌜ r < length (regions (gatesAt (now text) (starts .at) n)) ⌝ }
-    ensures { λ x. ⌜ (x ≡ length (stepWords (regions (gatesAt (now (text .entry)) (starts .at) n)) r)) × (x ≤ 65539) × (now (rest .exit) ≡ overFrom at (stepWords (regions (gatesAt (now (text .entry)) (starts .at) n)) r) (now (rest .entry))) ⌝ }
+    requires { ⌜ r < length (regionsAt (now text) (starts .at) n) ⌝ }
+    ensures { λ x. ⌜ WritesFrom at (stepWords (regionsAt (now (text .entry)) (starts .at) n) r) (now (rest .entry)) (now (rest .exit)) x ⌝ }
 {
     let place = locate(text, starts, n, r);
     let gate = place.gate;
@@ -107,8 +123,10 @@ fn put_step_from(
 // Writes the steps in their order over the beginning of rest, as far as it goes, and answers how many words they have.
 fn put_steps(rest: &mut [i32], text: &[u8], starts: Starts, n: usize, total: usize) -> usize
     requires { ⌜ Settled (now text) (starts .at) n ⌝ }
-    requires { ⌜ total ≡ length (regions (gatesAt (now text) (starts .at) n)) ⌝ }
-    ensures { λ x. ⌜ (x ≡ length (stepsWords (regions (gatesAt (now (text .entry)) (starts .at) n)) (order (regions (gatesAt (now (text .entry)) (starts .at) n))))) × (x ≤ 4194496) × (now (rest .exit) ≡ over (stepsWords (regions (gatesAt (now (text .entry)) (starts .at) n)) (order (regions (gatesAt (now (text .entry)) (starts .at) n)))) (now (rest .entry))) ⌝ }
+    requires { ⌜ total ≡ length (regionsAt (now text) (starts .at) n) ⌝ }
+    ensures { λ x. ⌜ (x ≤ 4194496)
+        × Writes (stepsWords (regionsAt (now (text .entry)) (starts .at) n) (order (regionsAt (now (text .entry)) (starts .at) n)))
+        (now (rest .entry)) (now (rest .exit)) x ⌝ }
 {
     let rows = region_rows(text, starts, n);
     let mut written = 0u64;
@@ -130,7 +148,8 @@ fn put_steps(rest: &mut [i32], text: &[u8], starts: Starts, n: usize, total: usi
 // Writes the plan over the beginning of a slice, as far as it goes, and answers how many words the plan has.
 fn put_plan(plan: &mut [i32], text: &[u8], starts: Starts, n: usize) -> usize
     requires { ⌜ Settled (now text) (starts .at) n ⌝ }
-    ensures { λ x. ⌜ Writes (planWords (length (dimensions (now (text .entry)))) (regions (gatesAt (now (text .entry)) (starts .at) n))) (now (plan .entry)) (now (plan .exit)) x ⌝ }
+    ensures { λ x. ⌜ Writes (planWords (length (dimensions (now (text .entry)))) (regionsAt (now (text .entry)) (starts .at) n))
+        (now (plan .entry)) (now (plan .exit)) x ⌝ }
 {
     let total = region_total(text, starts, n);
     put_number(plan, 0, name_count(head_line(text)));
@@ -169,13 +188,11 @@ pub fn compile(table: &[u8], plan: &mut [i32]) -> Compiled
         Answer::Long => Compiled::Refused(Refusal::LongTable),
         Answer::Unended => Compiled::Refused(Refusal::OpenLine),
         Answer::BadHead => Compiled::Refused(Refusal::BadHead),
-        Answer::BadLine { number, line } => Compiled::Refused(Refusal::BadLine { number, line }),
-        Answer::Names(named) => match named {
-            Named::Crowded { line } => Compiled::Refused(Refusal::Crowded { line }),
-            Named::Repeated { line } => Compiled::Refused(Refusal::TwinName { line }),
-            Named::Dead { line } => Compiled::Refused(Refusal::DeadReference { line }),
-            Named::Circled { line } => Compiled::Refused(Refusal::Circle { line }),
-            Named::Fine => compile_checked(table, plan),
-        },
+        Answer::BadLine { refusal, line } => Compiled::Refused(Refusal::BadLine { refusal, line }),
+        Answer::Crowded { line } => Compiled::Refused(Refusal::Crowded { line }),
+        Answer::Repeated { line } => Compiled::Refused(Refusal::TwinName { line }),
+        Answer::Dead { line } => Compiled::Refused(Refusal::DeadReference { line }),
+        Answer::Circled { line } => Compiled::Refused(Refusal::Circle { line }),
+        Answer::Fine => compile_checked(table, plan),
     }
 }

@@ -8,7 +8,7 @@ ghost use Rattle.plans.specs.Bits.{hasBit};
 ghost use Rattle.plans.specs.Indices.{firstBad};
 ghost use Rattle.text.specs.Bounded.{tab};
 ghost use Rattle.tables.specs.Reaching.{reachesBy};
-ghost use Rattle.graph.specs.Inner.Rows.{bitAt, joined, isSubset, held};
+ghost use Rattle.graph.specs.Inner.Rows.{bitAt, zeroRows, joined, isSubset, held};
 use plans::bits::has_bit;
 
 // Row a has bit b: a refers to b, or reaches it.
@@ -18,7 +18,7 @@ pub struct Rows {
 
 // Rows with no bit.
 pub fn no_rows() -> Rows
-    ensures { λ r. ⌜ length (r .bits) ≡ 64 ⌝ }
+    ensures { λ r. ⌜ r .bits ≡ zeroRows ⌝ }
 {
     Rows { bits: [0u64; 64] }
 }

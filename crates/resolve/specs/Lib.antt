@@ -1,2 +1,2 @@
--- Gates as they are read through the places of their lines, and refusals 13 to 16.
+-- Gates as they are read through the places of their lines.
 pub mod Inner

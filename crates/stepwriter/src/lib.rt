@@ -1,20 +1,10 @@
-// The step of a region of a table whose lines and names are checked, written over the beginning of a lent rest.
+// The step of a region of a table, written over the beginning of a lent rest.
 ghost use mathlib.Core.Path.{_≡_};
-ghost use mathlib.Core.Bool.{cond};
-ghost use mathlib.Core.List.{_++_};
-ghost use Prim.Native.Nat.{_+_, _≤_, _<_};
-ghost use lib.ListN.{length};
-ghost use Rattle.text.specs.Bounded.{tab};
 ghost use Rattle.text.specs.Lines.{fields};
-ghost use Rattle.text.specs.Output.{over};
-ghost use Rattle.gates.specs.Gate.{regions};
-ghost use Rattle.gates.specs.Kinds.{fieldAt, lineKind, isNone};
-ghost use Rattle.gates.specs.Inner.Regions.{regionCount, stepNumber, bodyLength};
-ghost use Rattle.tables.specs.Table.{numberOf};
-ghost use Rattle.tables.specs.Steps.{stepWords};
-ghost use Rattle.resolve.specs.Inner.Reading.{fieldsAt, gatesAt};
-ghost use Rattle.writer.specs.Inner.Words.{header, operandAt};
-ghost use Rattle.tableregions.specs.Inner.Settled.{Settled};
+ghost use Rattle.text.specs.Output.{Writes};
+ghost use Rattle.tables.specs.Head.{dimensions};
+ghost use Rattle.resolve.specs.Inner.Reading.{fieldsAt, regionsAt};
+ghost use Rattle.writer.specs.Inner.Words.{stepBy, operandAt, parentNumber, lineStep};
 use gatefields::fields::is_complement;
 use gatefields::fields::is_none;
 use gatefields::fields::operand_name;
@@ -31,9 +21,9 @@ use writer::put_header;
 use writer::put_leaf_step;
 use writer::put_operand;
 
-// The number of the parent of a gate line among the regions of n gates, where these are at most 64; 64 for none.
+// The number of the parent of a gate line among the regions of n gates; 64 for none.
 fn parent_number(text: &[u8], starts: Starts, n: usize, line: &[u8]) -> usize
-    ensures { λ r. ⌜ (length (regions (gatesAt (now (text .entry)) (starts .at) n)) ≤ 64 → r ≡ cond (isNone (fieldAt (fields (now (line .entry))) 2)) 64 (numberOf (regions (gatesAt (now (text .entry)) (starts .at) n)) (fieldAt (fields (now (line .entry))) 2))) ⌝ }
+    ensures { λ r. ⌜ r ≡ parentNumber (regionsAt (now (text .entry)) (starts .at) n) (fields (now (line .entry))) ⌝ }
 {
     let x = parent_field(line);
     if is_none(x) {
@@ -42,8 +32,7 @@ fn parent_number(text: &[u8], starts: Starts, n: usize, line: &[u8]) -> usize
     number_of(text, starts, n, x)
 }
 
-// Writes the step of a combination over the beginning of rest, and answers how many words it has. Its operands are among the regions of n gates,
-// where these are at most 64.
+// Writes the step of a combination over the beginning of rest, and answers how many words it has. Its operands are among the regions of n gates.
 fn put_combination_step(
     rest: &mut [i32],
     text: &[u8],
@@ -53,7 +42,8 @@ fn put_combination_step(
     region: usize,
     parent: usize,
 ) -> usize
-    ensures { λ r. ⌜ (length (regions (gatesAt (now (text .entry)) (starts .at) n)) ≤ 64 → (r ≡ 4 + bodyLength (fields (now (line .entry)))) × (now (rest .exit) ≡ over (header (stepNumber (lineKind (fields (now (line .entry))))) region parent (bodyLength (fields (now (line .entry)))) ++ tab (operandAt (regions (gatesAt (now (text .entry)) (starts .at) n)) (fields (now (line .entry)))) (bodyLength (fields (now (line .entry))))) (now (rest .entry)))) ⌝ }
+    ensures { λ r. ⌜ Writes (stepBy (fields (now (line .entry))) region parent (operandAt (regionsAt (now (text .entry)) (starts .at) n) (fields (now (line .entry)))))
+        (now (rest .entry)) (now (rest .exit)) r ⌝ }
 {
     let m = body_length(line);
     put_header(rest, step_number(line), region, parent, m);
@@ -78,7 +68,9 @@ pub fn put_step(
     quadrant: usize,
     region: usize,
 ) -> usize
-    ensures { λ r. ⌜ (Settled (now (text .entry)) (starts .at) n → gate < n → quadrant < regionCount (fieldsAt (now (text .entry)) (starts .at) gate) → region ≡ length (regions (gatesAt (now (text .entry)) (starts .at) gate)) + quadrant → (r ≡ length (stepWords (regions (gatesAt (now (text .entry)) (starts .at) n)) region)) × (r ≤ 65539) × (now (rest .exit) ≡ over (stepWords (regions (gatesAt (now (text .entry)) (starts .at) n)) region) (now (rest .entry)))) ⌝ }
+    ensures { λ r. ⌜ Writes
+        (lineStep (dimensions (now (text .entry))) (regionsAt (now (text .entry)) (starts .at) n) (fieldsAt (now (text .entry)) (starts .at) gate) quadrant region)
+        (now (rest .entry)) (now (rest .exit)) r ⌝ }
 {
     let line = line_at(text, starts, gate);
     let parent = parent_number(text, starts, n, line);

@@ -6,13 +6,12 @@ use Prim.Native.Nat.{ℕ, _+_, _-_, _<_, _≤_}
 use native.Mathlib.Omega.{arith}
 use native.Mathlib.Decide.{decLt}
 use native.Mathlib.Nat.{sub-zero}
-use lib.Dec.{ltb}
 use lib.ListN.{length, getD, drop, length-drop}
 use lib.Seq.{getD-drop, drop-drop}
-use borrow.Author.Tests.{lt-ltb, le-ltb, ltb-false, eq-eqb, ne-eqb}
+use borrow.Author.Tests.{lt-ltb, le-ltb, eq-eqb, ne-eqb}
 use Rattle.plans.specs.Indices.{firstBad}
 use Rattle.plans.specs.Refusals.{Verdict, refused}
-use Rattle.plans.proofs.IndexLaws.{first-more, first-stop, first-before}
+use Rattle.plans.proofs.IndexLaws.{first-more, first-stop, first-end, first-before}
 use Rattle.text.specs.Lines.{lines, fields, endsInLF}
 use Rattle.text.specs.Inner.Places.{lineFrom, findFrom}
 use Rattle.text.proofs.LinesLaws.{lines-cut, lines-end, find-from, find-inside}
@@ -21,15 +20,19 @@ use Rattle.tables.specs.Head.{headFields, dimensions, headGood, gateLines, gate
 use Rattle.gates.specs.Gate.{regions}
 use Rattle.tables.specs.Steps.{planWords}
 use Rattle.tables.specs.Refusals.{unlessLine, refusalAt, lineGood, sizeVerdict, gatesVerdict, tableVerdict}
-use Rattle.resolve.specs.Inner.NamedVerdict.{GoodLines, namesVerdict}
-use Rattle.tablecheck.specs.Inner.TextVerdict.{textVerdict}
+use Rattle.tablecheck.specs.Inner.Names.{GoodLines}
+use Rattle.tablecheck.specs.Inner.TextVerdict.{namesVerdict, linesVerdict, textVerdict}
+
+-- the first gate line from i on that 4 to 12 refuse, or their number
+abbrev firstFrom : List ℕ → ℕ → ℕ
+firstFrom text i = firstBad (lineGood (dimensions text) (gateLines text)) i (length (gateLines text) - i)
 
 -- the cursor stands at gate line i, and none before it is refused
 pub record Cursor (text : List ℕ) (at i : ℕ) : Type 0 where
   pub rest : lines (drop at text) ≡ drop i (gateLines text)
   pub behind : i + 1 ≤ at
   pub inside : at ≤ length text + 1
-  pub first : firstBad (lineGood (dimensions text) (gateLines text)) 0 (length (gateLines text)) ≡ firstBad (lineGood (dimensions text) (gateLines text)) i (length (gateLines text) - i)
+  pub first : firstBad (lineGood (dimensions text) (gateLines text)) 0 (length (gateLines text)) ≡ firstFrom text i
 
 module _ (text : List ℕ) where
   after-head : {e : ℕ} → e ≡ findFrom text 0 10 → lines (drop (e + 1) text) ≡ gateLines text
@@ -41,11 +44,33 @@ module _ (text : List ℕ) where
       go (no h) = lines-end text (e + 1) (omega arith) ∙ sym (ap (drop 1) (lines-end text 0 (omega arith)))
 
   pub cursor-first : {e : ℕ} → e ≡ findFrom text 0 10 → Cursor text (e + 1) 0
-  cursor-first {e} f = record { rest = after-head f; behind = omega arith; inside = omega (arith, f, find-inside text 0 10 (omega arith)); first = rw sub-zero }
+  cursor-first {e} f =
+      record {
+        rest = after-head f;
+        behind = omega arith;
+        inside = omega (arith, f, find-inside text 0 10 (omega arith));
+        first = rw sub-zero;
+      }
 
   module _ {at i : ℕ} (c : Cursor text at i) where
     pub cursor-end : length text ≤ at → length (gateLines text) ≤ i
-    cursor-end h = let z : length (drop i (gateLines text)) ≡ 0 = ap length (sym (c .rest) ∙ lines-end text at h) in omega (arith, z, length-drop i (gateLines text))
+    cursor-end h =
+        let z : length (drop i (gateLines text)) ≡ 0 = ap length (sym (c .rest) ∙ lines-end text at h) in
+        omega (arith, z, length-drop i (gateLines text))
+
+    -- at the end no line is refused
+    module _ (h : length text ≤ at) where
+      none-first : firstBad (lineGood (dimensions text) (gateLines text)) 0 (length (gateLines text)) ≡ i
+      none-first = c .first ∙ first-end (lineGood (dimensions text) (gateLines text)) (length (gateLines text)) i (cursor-end h)
+
+      pub lines-good : GoodLines text
+      lines-good j l =
+          first-before (lineGood (dimensions text) (gateLines text)) 0 (length (gateLines text)) j (omega arith)
+          (rw none-first (omega (arith, cursor-end h)))
+
+      pub lines-passed : {r : Verdict} (v : Verdict) → r ≡ namesVerdict (gates text) v → r ≡ linesVerdict text v
+      unfolding linesVerdict unlessLine
+      lines-passed v q = q ∙ rw (none-first, le-ltb i (length (gateLines text)) (cursor-end h))
 
     module _ (h : at < length text) where
       cut : drop i (gateLines text) ≡ lineFrom text at ∷ lines (drop (findFrom text at 10 + 1) text)
@@ -55,18 +80,26 @@ module _ (text : List ℕ) where
       cursor-inside = omega (arith, ap length cut, length-drop i (gateLines text))
 
       line-here : getD (gateLines text) i [] ≡ lineFrom text at
-      line-here = let z : i + 0 ≡ i = omega arith in sym (sym (ap (λ (ls : List (List ℕ)). getD ls 0 []) cut) ∙ getD-drop i (gateLines text) 0 [] ∙ rw z)
+      line-here =
+          let z : i + 0 ≡ i = omega arith in
+          sym (sym (ap (λ (ls : List (List ℕ)). getD ls 0 []) cut) ∙ getD-drop i (gateLines text) 0 [] ∙ rw z)
 
-      module _ {head line : List ℕ} (a : head ≡ getD (lines text) 0 []) (l : line ≡ lineFrom text at) {number : ℕ} (n : number ≡ lineRefusal (drop 1 (fields head)) (fields line)) where
-        pub refusal-here : number ≡ refusalAt (dimensions text) (gateLines text) i
+      module _ {head line : List ℕ} (a : head ≡ getD (lines text) 0 []) (l : line ≡ lineFrom text at) {number : ℕ}
+          (n : number ≡ lineRefusal (drop 1 (fields head)) (fields line)) where
+        refusal-here : number ≡ refusalAt (dimensions text) (gateLines text) i
         unfolding refusalAt dimensions headFields
         refusal-here = n ∙ rw (line-here, a, l)
 
-        pub bad-here : (number ≡ 99 → ⊥) → firstBad (lineGood (dimensions text) (gateLines text)) 0 (length (gateLines text)) ≡ i
+        bad-here : (number ≡ 99 → ⊥) → firstBad (lineGood (dimensions text) (gateLines text)) 0 (length (gateLines text)) ≡ i
         unfolding lineGood
         bad-here ne =
             c .first ∙ first-stop (lineGood (dimensions text) (gateLines text)) (length (gateLines text)) i cursor-inside
             (rw (← refusal-here) (ne-eqb number 99 ne))
+
+        pub line-refused : (number ≡ 99 → ⊥) → {k : ℕ} → k ≡ number → (v : Verdict) → refused k (i + 2) ≡ linesVerdict text v
+        unfolding linesVerdict unlessLine
+        line-refused ne e v =
+            rw (bad-here ne, lt-ltb i (length (gateLines text)) cursor-inside) (ap (λ (m : ℕ). refused m (i + 2)) (e ∙ refusal-here))
 
         pub cursor-next : number ≡ 99 → {e : ℕ} → e ≡ findFrom text at 10 → Cursor text (e + 1) (i + 1)
         unfolding lineGood
@@ -75,7 +108,8 @@ module _ (text : List ℕ) where
               rest = rw f (sym (ap (drop 1) cut)) ∙ drop-drop 1 i (gateLines text);
               behind = omega (arith, f, find-from text at 10, c .behind);
               inside = omega (arith, f, find-inside text at 10 (omega arith));
-              first = c .first ∙ first-more (lineGood (dimensions text) (gateLines text)) (length (gateLines text)) i cursor-inside (rw (← refusal-here) (eq-eqb number 99 g));
+              first = c .first ∙ first-more (lineGood (dimensions text) (gateLines text)) (length (gateLines text)) i cursor-inside
+                  (rw (← refusal-here) (eq-eqb number 99 g));
             }
 
   -- ---- the answers, one after the other
@@ -94,21 +128,12 @@ module _ (text : List ℕ) where
       unfolding textVerdict
       bad-head h v = rw (le-ltb 32768 (length text) s, ← e, t, ← d, h)
 
-      module _ (u : g ≡ true) {f : ℕ} (c : f ≡ firstBad (lineGood (dimensions text) (gateLines text)) 0 (length (gateLines text))) {o : Bool} (w : o ≡ ltb f (length (gateLines text))) where
-        pub bad-line : o ≡ true → {number : ℕ} → number ≡ refusalAt (dimensions text) (gateLines text) f → (v : Verdict) → refused number (f + 2) ≡ textVerdict text v
-        unfolding textVerdict unlessLine
-        bad-line h n v = rw (le-ltb 32768 (length text) s, ← e, t, ← d, u, ← c, ← w, h, ← n)
-
-        pub lines-good : o ≡ false → GoodLines text
-        lines-good h i l =
-            first-before (lineGood (dimensions text) (gateLines text)) 0 (length (gateLines text)) i (omega arith)
-            (rw (← c) (omega (arith, l, ltb-false f (length (gateLines text)) (sym w ∙ h))))
-
-        pub names-next : o ≡ false → {r : Verdict} (v : Verdict) → r ≡ namesVerdict (gates text) v → r ≡ textVerdict text v
-        unfolding textVerdict unlessLine
-        names-next h v q = q ∙ rw (le-ltb 32768 (length text) s, ← e, t, ← d, u, ← c, ← w, h)
+      pub lines-next : g ≡ true → {r : Verdict} (v : Verdict) → r ≡ linesVerdict text v → r ≡ textVerdict text v
+      unfolding textVerdict
+      lines-next u v q = q ∙ rw (le-ltb 32768 (length text) s, ← e, t, ← d, u)
 
 -- the table's verdict is that of its text, then 17 and 18
-pub table-verdict : (slice : ℕ) (text : List ℕ) → tableVerdict slice text ≡ textVerdict text (sizeVerdict slice (length (planWords (length (dimensions text)) (regions (gates text)))))
-unfolding tableVerdict textVerdict gatesVerdict namesVerdict
+pub table-verdict : (slice : ℕ) (text : List ℕ)
+    → tableVerdict slice text ≡ textVerdict text (sizeVerdict slice (length (planWords (length (dimensions text)) (regions (gates text)))))
+unfolding tableVerdict textVerdict linesVerdict gatesVerdict namesVerdict
 table-verdict slice text = refl

@@ -1,42 +1,56 @@
 // Refusals 1 to 16 of a table.
 ghost use mathlib.Core.Path.{_≡_};
-ghost use mathlib.Core.Bool.{true};
 ghost use Prim.Native.Nat.{_≤_};
-ghost use lib.Dec.{ltb};
-ghost use lib.ListN.{length};
-ghost use Rattle.plans.specs.Indices.{firstBad};
 ghost use Rattle.plans.specs.Refusals.{Verdict};
-ghost use Rattle.tables.specs.Head.{dimensions, gateLines};
-ghost use Rattle.tables.specs.Refusals.{refusalAt, lineGood};
-ghost use Rattle.tablecheck.specs.Inner.TextVerdict.{answered, textVerdict};
+ghost use Rattle.gates.specs.LineRefusals.{lineNumber};
+ghost use Rattle.tablecheck.specs.Inner.TextVerdict.{answered, linesVerdict, textVerdict};
+
+mod names;
+
+use crate::names::names_refusal;
 use gatelines::refusal::line_refusal;
+use gates::LineRefusal;
 use heads::head_good;
 use heads::head_line;
-use resolve::Named;
-use resolve::names_refusal;
 use text::lines::ends_in_lf;
 use text::lines::find;
 use text::lines::line_from;
 
-// What is refused of a text, with its place; Names(Fine) where none of 1 to 16 applies.
+// What is refused of a text, with its line; Fine where none of 1 to 16 applies.
 pub enum Answer {
     Long,
     Unended,
     BadHead,
-    BadLine { number: u8, line: usize },
-    Names(Named),
+    // 4 to 12
+    BadLine { refusal: LineRefusal, line: usize },
+    Crowded { line: usize },
+    Repeated { line: usize },
+    Dead { line: usize },
+    Circled { line: usize },
+    Fine,
 }
 
-// A gate line that is refused: its index, the refusal's number, and whether there is one.
-pub struct Found {
-    pub index: usize,
-    pub number: u8,
-    pub found: bool,
+// The refusal with a number.
+fn refusal_of(number: u8) -> LineRefusal
+    requires { ⌜ (4 ≤ number) × (number ≤ 12) ⌝ }
+    ensures { λ r. ⌜ lineNumber r ≡ number ⌝ }
+{
+    match number {
+        4 => LineRefusal::UnknownKind,
+        5 => LineRefusal::WrongShape,
+        6 => LineRefusal::BadName,
+        7 => LineRefusal::BadNumber,
+        8 => LineRefusal::OffScale,
+        9 => LineRefusal::BadDimension,
+        10 => LineRefusal::CrossedBounds,
+        11 => LineRefusal::BadMatrix,
+        _ => LineRefusal::NoTiling,
+    }
 }
 
-// The first gate line that is refused by 4 to 12.
-fn first_bad_line(text: &[u8]) -> Found
-    ensures { λ r. ⌜ (r .index ≡ firstBad (lineGood (dimensions (now (text .entry))) (gateLines (now (text .entry)))) 0 (length (gateLines (now (text .entry))))) × (r .found ≡ ltb (r .index) (length (gateLines (now (text .entry))))) × (r .found ≡ true → r .number ≡ refusalAt (dimensions (now (text .entry))) (gateLines (now (text .entry))) (r .index)) × (r .index ≤ length (now (text .entry))) ⌝ }
+// The first of refusals 4 to 16 that applies to a text.
+fn lines_refusal(text: &[u8]) -> Answer
+    ensures { λ r. ⌜ ((v : Verdict) → answered r v ≡ linesVerdict (now (text .entry)) v) ⌝ }
 {
     let head = head_line(text);
     let mut at = find(text, 0, b'\n') + 1;
@@ -44,20 +58,16 @@ fn first_bad_line(text: &[u8]) -> Found
     while at < text.len() {
         let number = line_refusal(head, line_from(text, at));
         if number != 99 {
-            return Found {
-                index: i,
-                number,
-                found: true,
+            let refusal = refusal_of(number);
+            return Answer::BadLine {
+                refusal,
+                line: i + 2,
             };
         }
         at = find(text, at, b'\n') + 1;
         i += 1;
     }
-    Found {
-        index: i,
-        number: 99,
-        found: false,
-    }
+    names_refusal(text)
 }
 
 // The first of refusals 1 to 16 that applies to a text.
@@ -73,15 +83,5 @@ pub fn check_table(text: &[u8]) -> Answer
     if !head_good(text) {
         return Answer::BadHead;
     }
-    let bad = first_bad_line(text);
-    let found = bad.found;
-    if found {
-        let number = bad.number;
-        let index = bad.index;
-        return Answer::BadLine {
-            number,
-            line: index + 2,
-        };
-    }
-    Answer::Names(names_refusal(text))
+    lines_refusal(text)
 }

@@ -1,40 +1,47 @@
 -- The regions that a region refers to, gathered field by field.
 use mathlib.Core.Path.{_≡_, refl, sym, ap, _∙_}
-use mathlib.Core.Bool.{Bool, true, false, cond}
-use mathlib.Core.Logic.{_⊎_, ⊎-elim}
-use mathlib.Core.List.{List, _++_}
-use Prim.Native.Nat.{ℕ, _+_, _<_, _≤_}
+use mathlib.Core.Bool.{Bool, true, false, cond, not, _||_, _&&_}
+use mathlib.Core.Logic.{⊎-elim}
+use mathlib.Core.Option.{none, some}
+use mathlib.Core.List.{List, [], _∷_, _++_, append-nil, append-assoc, List·Memᴰ·head as here, List·Memᴰ·tail as there}
+use Prim.Native.Nat.{ℕ, suc, _+_, _-_, _<_, _≤_, min}
 use native.Mathlib.Omega.{arith}
 use native.Mathlib.Decide.{decLt}
-use lib.Dec.{eqb}
-use lib.ListN.{length}
-use borrow.Author.Tests.{eqb-true, eqb-false, eq-eqb, ltb-true}
+use lib.Dec.{eqb, ltb}
+use lib.ListN.{length, getD}
+use borrow.Author.Tests.{eqb-true, eqb-false, eq-eqb, ne-eqb, ltb-true, lt-ltb, le-ltb}
 use Rattle.plans.specs.Bits.{hasBit, withBit}
 use Rattle.plans.proofs.BitLaws.{has-with-same, has-with-other}
+use Rattle.text.specs.Bounded.{tab}
+use Rattle.text.specs.Bytes.{every}
 use Rattle.text.specs.Lines.{fields}
-use Rattle.text.proofs.TestLaws.{true≢false, passed-or-failed}
+use Rattle.text.proofs.BoundedLaws.{getD-tab}
+use Rattle.text.proofs.TestLaws.{passed-or-failed}
 use Rattle.gates.specs.declared.LineKind.{LineKind}
 use Rattle.gates.specs.declared.LineKind.the-variants.{Rect, Poly, Ellip, Quad, And, Or, Not, Unknown}
-use Rattle.gates.specs.Kinds.{fieldAt, lineKind}
-use Rattle.gates.specs.Gate.{Name, regions}
+use Rattle.gates.specs.Kinds.{fieldAt, lineKind, isNone, operandName}
+use Rattle.gates.specs.Gate.{Name, Region}
 use Rattle.gates.specs.Meaning.{bodyOf, parentOf, gateOf}
 use Rattle.gates.specs.Inner.Regions.{regionCount, lineShape, regionShape}
-use Rattle.tables.specs.Table.{someOf, nthRegion, numberOf, operandNames, parentNames, bodyReferences, gateReferences, references}
+use Rattle.tables.specs.Table.{_∈_, someOf, nthRegion, numberOf, operandNames, parentNames, bodyReferences, gateReferences, references, nthGate}
 use Rattle.tables.specs.Head.{dimensions}
-use Rattle.tables.specs.Refusals.{isRegion}
-use Rattle.tables.proofs.ListLaws.{some-at, some-found}
-use Rattle.tables.proofs.OrderLaws.{no-bit, with-cases}
+use Rattle.tables.specs.Refusals.{isRegion, living}
+use Rattle.tables.proofs.ListLaws.{every-at}
+use Rattle.tables.proofs.OrderLaws.{no-bit}
+use Rattle.graph.specs.Inner.Rows.{bitAt, Referring}
 use Rattle.linenames.specs.Inner.LineNames.{referenceEnd, hasReference, referenceAt}
-use Rattle.linenames.proofs.LineLaws.{reference-in, in-reference}
-use Rattle.linenames.proofs.TabLaws.{both-ways}
-use Rattle.resolve.specs.Inner.Reading.{lineAt, fieldsAt, gatesAt}
-use Rattle.resolve.proofs.ReadLaws.{gateAt, region-read}
-use Rattle.resolve.proofs.LivingLaws.{living-here}
+use Rattle.linenames.proofs.LineLaws.{references-listed}
+use Rattle.resolve.specs.Inner.Reading.{lineAt, fieldsAt, gatesAt, regionsAt}
+use Rattle.resolve.proofs.ReadLaws.{gateAt, gates-nth, region-read}
 use Rattle.tableregions.specs.Inner.Settled.{Settled}
+use Rattle.tableregions.specs.Inner.Located.{locatedAt, withNumbers, rowOf}
+use Rattle.tableregions.specs.declared.Located.{Located}
+use Rattle.tableregions.proofs.PlaceLaws.{place-is, quadrant-inside, gate-inside}
 
 -- ---- each region of a gate refers to what the gate refers to
 
-same-references : (head : List (List ℕ)) (kind : LineKind) (fs : List (List ℕ)) (q : ℕ) → operandNames (lineShape head kind fs q) ≡ bodyReferences (bodyOf head kind fs)
+same-references : (head : List (List ℕ)) (kind : LineKind) (fs : List (List ℕ)) (q : ℕ)
+    → operandNames (lineShape head kind fs q) ≡ bodyReferences (bodyOf head kind fs)
 same-references head Rect fs q = refl
 same-references head Poly fs q = refl
 same-references head Ellip fs q = refl
@@ -44,117 +51,134 @@ same-references head Or fs q = refl
 same-references head Not fs q = refl
 same-references head Unknown fs q = refl
 
-pub region-references : (text starts : List ℕ) (n i : ℕ) → i < n → (q : ℕ) → q < regionCount (fieldsAt text starts i)
-    → references (nthRegion (regions (gatesAt text starts n)) (length (regions (gatesAt text starts i)) + q)) ≡ gateReferences (gateAt text starts i)
+region-references : (text starts : List ℕ) (n i : ℕ) → i < n → (q : ℕ) → q < regionCount (fieldsAt text starts i)
+    → references (nthRegion (regionsAt text starts n) (length (regionsAt text starts i) + q)) ≡ gateReferences (gateAt text starts i)
 unfolding regionShape gateOf
 region-references text starts n i h q l =
     let fs = fieldsAt text starts i in
-    ap references (region-read text starts n i h q l) ∙ ap (λ (x : List Name). parentNames (parentOf (fieldAt fs 2)) ++ x) (same-references (dimensions text) (lineKind fs) fs q)
+    ap references (region-read text starts n i h q l)
+    ∙ ap (λ (x : List Name). parentNames (parentOf (fieldAt fs 2)) ++ x) (same-references (dimensions text) (lineKind fs) fs q)
 
--- ---- the bits of the fields from 2 to k
+-- the references of a region are those of the gate that it stands at
+pub located-references : (text starts : List ℕ) (n r : ℕ) {x : Located} → x ≡ locatedAt text starts n r → x .gate < n
+    → references (nthRegion (regionsAt text starts n) r) ≡ gateReferences (gateAt text starts (x .gate))
+located-references text starts n r {x} e h =
+    ap (λ (k : ℕ). references (nthRegion (regionsAt text starts n) k)) (place-is text starts n r e)
+    ∙ region-references text starts n (x .gate) h (x .quadrant) (quadrant-inside text starts n r e h)
 
-module _ (head fs : List (List ℕ)) (number : Name → ℕ) where
-  -- x is the number of a name that the gate refers to
-  abbrev pub refers : ℕ → Bool
-  refers x = someOf (λ (m : Name). eqb (number m) x) (gateReferences (gateOf head fs))
+-- ---- one name more
 
-  pub record Gathered (k row : ℕ) : Type 0 where
-    pub from : (x : ℕ) → hasBit row x ≡ true → refers x ≡ true
-    pub has : (j : ℕ) → 2 ≤ j → j < k → hasReference fs j ≡ true → hasBit row (number (referenceAt fs j)) ≡ true
+with-last : (rs : List Region) (set : ℕ) (l : List Name) (x : Name) → withNumbers rs set (l ++ (x ∷ [])) ≡ withBit (withNumbers rs set l) (numberOf rs x)
+with-last rs set [] x = refl
+with-last rs set (y ∷ l) x = with-last rs (withBit set (numberOf rs y)) l x
 
-  pub gathered-none : Gathered 2 0
-  gathered-none = record { from = λ x e. absurd (true≢false (sym e ∙ no-bit x)); has = λ j a b e. absurd (omega arith) }
+-- a number that is held at 64 puts the same into a set
+held-number : (set m : ℕ) → withBit set (min 64 m) ≡ withBit set m
+unfolding withBit
+held-number set m = go (decLt m 64)
+  where
+    go : Dec (m < 64) → withBit set (min 64 m) ≡ withBit set m
+    go (yes h) = let z : min 64 m ≡ m = omega arith in rw z
+    go (no h) = rw (le-ltb (min 64 m) 64 (omega arith), le-ltb m 64 (omega arith))
 
-  module _ (k row : ℕ) (low : 2 ≤ k) (g : Gathered k row) where
-    gathered-past : hasReference fs k ≡ false → Gathered (k + 1) row
-    gathered-past e = record { from = g .from; has = has }
-      where
-        at : (j : ℕ) → 2 ≤ j → j < k + 1 → hasReference fs j ≡ true → Dec (j < k) → hasBit row (number (referenceAt fs j)) ≡ true
-        at j a b o (yes l) = g .has j a l o
-        at j a b o (no l) = let z : j ≡ k = omega arith in absurd (true≢false (sym o ∙ rw z e))
+-- ---- the names in the fields from 2 to k
 
-        has : (j : ℕ) → 2 ≤ j → j < k + 1 → hasReference fs j ≡ true → hasBit row (number (referenceAt fs j)) ≡ true
-        has j a b o = at j a b o (decLt j k)
+module _ (rs : List Region) (fs : List (List ℕ)) where
+  -- of none, then of the parent and the operands before field k
+  abbrev pub Gathered : ℕ → ℕ → Type 0
+  Gathered k row =
+      row ≡ cond (ltb 2 k) (withNumbers rs 0 (parentNames (parentOf (fieldAt fs 2)) ++ tab (λ j. operandName (fieldAt fs (3 + j))) (k - 3))) 0
 
-    gathered-with : k < referenceEnd fs → hasReference fs k ≡ true → number (referenceAt fs k) < 64 → Gathered (k + 1) (withBit row (number (referenceAt fs k)))
-    gathered-with l e u = record { from = from; has = has }
-      where
-        own : ℕ
-        own = number (referenceAt fs k)
-
-        from : (x : ℕ) → hasBit (withBit row (number (referenceAt fs k))) x ≡ true → refers x ≡ true
-        from x t =
-            ⊎-elim (λ z. some-at (λ (m : Name). eqb (number m) x) (reference-in head fs k low l e) (eq-eqb (number (referenceAt fs k)) x (sym z))) (λ o. g .from x o)
-            (with-cases row (number (referenceAt fs k)) x u t)
-
-        kept : (x : ℕ) → hasBit row x ≡ true → hasBit (withBit row (number (referenceAt fs k))) x ≡ true
-        kept x t =
-            ⊎-elim (λ z. rw (eqb-true x (number (referenceAt fs k)) z) (has-with-same row (number (referenceAt fs k)) u))
-            (λ z. has-with-other row (number (referenceAt fs k)) u x (eqb-false x (number (referenceAt fs k)) z) ∙ t)
-            (passed-or-failed (eqb x (number (referenceAt fs k))))
-
-        at : (j : ℕ) → 2 ≤ j → j < k + 1 → hasReference fs j ≡ true → Dec (j < k) → hasBit (withBit row (number (referenceAt fs k))) (number (referenceAt fs j)) ≡ true
-        at j a b o (yes s) = kept (number (referenceAt fs j)) (g .has j a s o)
-        at j a b o (no s) = let z : j ≡ k = omega arith in rw z (has-with-same row (number (referenceAt fs k)) u)
-
-        has : (j : ℕ) → 2 ≤ j → j < k + 1 → hasReference fs j ≡ true → hasBit (withBit row (number (referenceAt fs k))) (number (referenceAt fs j)) ≡ true
-        has j a b o = at j a b o (decLt j k)
+  module _ (k row : ℕ) (low : 2 ≤ k) (g : Gathered k row) {y : Name} (f : y ≡ referenceAt fs k) {m : ℕ} (n : m ≡ min 64 (numberOf rs y)) {b : Bool}
+      (o : b ≡ hasReference fs k) {new : ℕ} (w : new ≡ cond b (withBit row m) row) where
+    put : new ≡ cond (hasReference fs k) (withBit row (numberOf rs (referenceAt fs k))) row
+    put = w ∙ rw (n, held-number row (numberOf rs y), o, f)
 
     -- one field more
-    pub gathered-more : k < referenceEnd fs → {b : Bool} → b ≡ hasReference fs k → {m : ℕ} → m ≡ number (referenceAt fs k) → (hasReference fs k ≡ true → number (referenceAt fs k) < 64)
-        → {new : ℕ} → new ≡ cond b (withBit row m) row → Gathered (k + 1) new
-    gathered-more l {b} e {m} f u {new} s =
-        ⊎-elim (λ o. let t : b ≡ true = e ∙ o in let z : new ≡ withBit row (number (referenceAt fs k)) = s ∙ rw (t, f) in rw z (gathered-with l o (u o)))
-        (λ o. let t : b ≡ false = e ∙ o in let z : new ≡ row = s ∙ rw t in rw z (gathered-past o))
-        (passed-or-failed (hasReference fs k))
+    pub gathered-more : Gathered (k + 1) new
+    unfolding hasReference referenceAt parentOf
+    gathered-more = rw (lt-ltb 2 (k + 1) (omega arith)) (go (decLt 2 k))
+      where
+        parent : (c : Bool) → cond (not (true && c)) (withBit 0 (numberOf rs (fieldAt fs 2))) 0 ≡ withNumbers rs 0 (parentNames (cond c none (some (fieldAt fs 2))) ++ [])
+        parent true = refl
+        parent false = refl
 
-  -- after the last field
-  pub gathered-all : (k row : ℕ) → referenceEnd fs ≤ k → Gathered k row → (x : ℕ) → hasBit row x ≡ refers x
-  gathered-all k row h g x =
-      both-ways (hasBit row x) (refers x) (g .from x)
-      (λ t. let w = some-found (λ (m : Name). eqb (number m) x) (gateReferences (gateOf head fs)) t in
-      let v = in-reference head fs (w .1) in
-      let z : number (referenceAt fs (v .0)) ≡ x = ap number (v .4) ∙ eqb-true (number (w .0)) x (w .2) in
-      rw (← z) (g .has (v .0) (v .1) (omega (arith, v .2)) (v .3)))
+        go : Dec (2 < k) → new ≡ withNumbers rs 0 (parentNames (parentOf (fieldAt fs 2)) ++ tab (λ j. operandName (fieldAt fs (3 + j))) (k + 1 - 3))
+        go (yes h) =
+            let z : k + 1 - 3 ≡ suc (k - 3) = omega arith in
+            let u : 3 + (k - 3) ≡ k = omega arith in
+            let names = parentNames (parentOf (fieldAt fs 2)) in
+            let held : row ≡ withNumbers rs 0 (names ++ tab (λ j. operandName (fieldAt fs (3 + j))) (k - 3)) = g ∙ rw (lt-ltb 2 k h) in
+            put ∙ rw (ne-eqb k 2 (λ e. omega arith), held, z)
+            (sym (ap (withNumbers rs 0) (sym (append-assoc names (tab (λ j. operandName (fieldAt fs (3 + j))) (k - 3)) (operandName (fieldAt fs (3 + (k - 3))) ∷ [])))
+            ∙ with-last rs 0 (names ++ tab (λ j. operandName (fieldAt fs (3 + j))) (k - 3)) (operandName (fieldAt fs (3 + (k - 3)))) ∙ rw u))
+        go (no h) =
+            let z : k ≡ 2 = omega arith in
+            let u : k + 1 - 3 ≡ 0 = omega arith in
+            let held : row ≡ 0 = g ∙ rw (le-ltb 2 k (omega arith)) in
+            put ∙ rw (eq-eqb k 2 z, held, u) (parent (isNone (fieldAt fs 2)))
 
--- ---- of a table that is settled
+-- after the last field
+pub gathered-all : (text starts : List ℕ) (n r : ℕ) {x : Located} → x ≡ locatedAt text starts n r → x .gate < n → {line : List ℕ} → line ≡ lineAt text starts (x .gate)
+    → {end : ℕ} → (end ≡ referenceEnd (fields line)) × (3 ≤ end) → (k row : ℕ) → k ≡ end → Gathered (regionsAt text starts n) (fields line) k row
+    → row ≡ rowOf (regionsAt text starts n) r
+unfolding rowOf fieldsAt
+gathered-all text starts n r {x} e h {line} l {end} d k row z g =
+    g ∙ rw (lt-ltb 2 k (omega (arith, z, d .1)), z, d .0, l)
+    (sym (ap (withNumbers (regionsAt text starts n) 0) (located-references text starts n r e h
+    ∙ references-listed (dimensions text) (fields (lineAt text starts (x .gate))))))
 
-module _ (text starts : List ℕ) (n : ℕ) (s : Settled text starts n) (i : ℕ) (h : i < n) where
-  pub alive-at : (k : ℕ) → 2 ≤ k → k < referenceEnd (fieldsAt text starts i) → hasReference (fieldsAt text starts i) k ≡ true
-      → numberOf (regions (gatesAt text starts n)) (referenceAt (fieldsAt text starts i) k) < 64
-  unfolding isRegion
-  alive-at k a b e =
+-- ---- the rows of a table that is settled are those of its references
+
+with-bit : (set m k : ℕ) → m < 64 → hasBit (withBit set m) k ≡ (hasBit set k || eqb m k)
+with-bit set m k h =
+    ⊎-elim (λ e. let z : k ≡ m = eqb-true k m e in rw (z, has-with-same set m h, eq-eqb m m refl) (sym (or-true (hasBit set m))))
+    (λ e. let ne = eqb-false k m e in rw (has-with-other set m h k ne, ne-eqb m k (λ z. ne (sym z))) (sym (or-false (hasBit set k))))
+    (passed-or-failed (eqb k m))
+  where
+    or-true : (b : Bool) → (b || true) ≡ true
+    or-true true = refl
+    or-true false = refl
+
+    or-false : (b : Bool) → (b || false) ≡ b
+    or-false true = refl
+    or-false false = refl
+
+with-numbers : (rs : List Region) (k : ℕ) (l : List Name) → ((x : Name) → x ∈ l → numberOf rs x < 64) → (set : ℕ)
+    → hasBit (withNumbers rs set l) k ≡ (hasBit set k || someOf (λ (x : Name). eqb (numberOf rs x) k) l)
+with-numbers rs k [] h set = sym (or-false (hasBit set k))
+  where
+    or-false : (b : Bool) → (b || false) ≡ b
+    or-false true = refl
+    or-false false = refl
+with-numbers rs k (x ∷ l) h set =
+    with-numbers rs k l (λ y m. h y (there m)) (withBit set (numberOf rs x))
+    ∙ rw (with-bit set (numberOf rs x) k (h x (here refl))) (or-or (hasBit set k))
+  where
+    or-or : (b : Bool) → ((b || eqb (numberOf rs x) k) || someOf (λ (y : Name). eqb (numberOf rs y) k) l)
+        ≡ (b || (eqb (numberOf rs x) k || someOf (λ (y : Name). eqb (numberOf rs y) k) l))
+    or-or true = refl
+    or-or false = refl
+
+module _ (text starts : List ℕ) (n : ℕ) (s : Settled text starts n) where
+  alive-at : (r : ℕ) → r < length (regionsAt text starts n) → (x : Name) → x ∈ references (nthRegion (regionsAt text starts n) r) → numberOf (regionsAt text starts n) x < 64
+  unfolding living isRegion
+  alive-at r h x m =
+      let at = locatedAt text starts n r in
+      let inside : at .gate < n = gate-inside text starts n r refl h in
+      let listed = located-references text starts n r {x = at} refl inside ∙ sym (ap gateReferences (gates-nth text starts n (at .gate) inside)) in
       let few = s .few in
-      let l : numberOf (regions (gatesAt text starts n)) (referenceAt (fieldsAt text starts i) k) < length (regions (gatesAt text starts n)) =
-      ltb-true _ _ (living-here text starts n i h (s .alive i h) k a b e) in
-      omega arith
+      omega (
+        arith,
+        few,
+        ltb-true (numberOf (regionsAt text starts n) x) (length (regionsAt text starts n))
+            (every-at (isRegion (gatesAt text starts n)) (rw listed at m) (s .alive (at .gate) inside)),
+      )
 
-  module _ {line : List ℕ} (l : line ≡ lineAt text starts i) where
-    line-fields : fields line ≡ fieldsAt text starts i
-    unfolding fieldsAt
-    line-fields = ap fields l
-
-    pub row-next : (k row : ℕ) → 2 ≤ k → {end : ℕ} → end ≡ referenceEnd (fields line) → k < end
-        → Gathered (dimensions text) (fields line) (numberOf (regions (gatesAt text starts n))) k row → {y : Name} → y ≡ referenceAt (fields line) k
-        → {m : ℕ} → (length (regions (gatesAt text starts n)) ≤ 64 → m ≡ numberOf (regions (gatesAt text starts n)) y) → {b : Bool} → b ≡ hasReference (fields line) k
-        → {new : ℕ} → new ≡ cond b (withBit row m) row → Gathered (dimensions text) (fields line) (numberOf (regions (gatesAt text starts n))) (k + 1) new
-    row-next k row low {end} e below g {y} f {m} num {b} o {new} w =
-        let under : k < referenceEnd (fields line) = omega arith in
-        let live : hasReference (fields line) k ≡ true → numberOf (regions (gatesAt text starts n)) (referenceAt (fields line) k) < 64 =
-        rw line-fields (λ t. alive-at k low (rw line-fields at under) t) in
-        gathered-more (dimensions text) (fields line) (numberOf (regions (gatesAt text starts n))) k row low g under o
-        (num (s .few) ∙ ap (numberOf (regions (gatesAt text starts n))) f) live w
-
-    pub row-done : (q : ℕ) → q < regionCount (fieldsAt text starts i) → (r : ℕ) → r ≡ length (regions (gatesAt text starts i)) + q → (k row : ℕ) → {end : ℕ}
-        → end ≡ referenceEnd (fields line) → end ≤ k → Gathered (dimensions text) (fields line) (numberOf (regions (gatesAt text starts n))) k row
-        → (x : ℕ) → hasBit row x ≡ someOf (λ (m : Name). eqb (numberOf (regions (gatesAt text starts n)) m) x) (references (nthRegion (regions (gatesAt text starts n)) r))
-    row-done q below r z k row {end} e past g x =
-        gathered-all (dimensions text) (fields line) (numberOf (regions (gatesAt text starts n))) k row (omega arith) g x
-        ∙ ap (λ (fs : List (List ℕ)). someOf (λ (m : Name). eqb (numberOf (regions (gatesAt text starts n)) m) x) (gateReferences (gateOf (dimensions text) fs))) line-fields
-        ∙ ap (λ (u : List Name). someOf (λ (m : Name). eqb (numberOf (regions (gatesAt text starts n)) m) x) u)
-        (sym (ap (λ (j : ℕ). references (nthRegion (regions (gatesAt text starts n)) j)) z ∙ region-references text starts n i h q below))
-
--- row r holds the references of region r
-abbrev pub RowOf : List ℕ → List ℕ → ℕ → ℕ → ℕ → Type 0
-RowOf text starts n r row = Settled text starts n → r < length (regions (gatesAt text starts n))
-    → (k : ℕ) → hasBit row k ≡ someOf (λ (m : Name). eqb (numberOf (regions (gatesAt text starts n)) m) k) (references (nthRegion (regions (gatesAt text starts n)) r))
+  pub referring : Referring (regionsAt text starts n) (tab (rowOf (regionsAt text starts n)) 64)
+  unfolding bitAt rowOf
+  referring r k h =
+      let few = s .few in
+      rw (getD-tab (rowOf (regionsAt text starts n)) 0 64 r (omega arith))
+      (with-numbers (regionsAt text starts n) k (references (nthRegion (regionsAt text starts n) r)) (alive-at r h) 0
+      ∙ rw (no-bit k))

@@ -1,15 +1,9 @@
 // The regions of a table by number: where each stands, its name, and what it refers to.
 ghost use mathlib.Core.Path.{_≡_};
-ghost use Prim.Native.Nat.{ℕ, _+_, _<_};
-ghost use lib.Dec.{eqb};
-ghost use lib.ListN.{length};
-ghost use Rattle.plans.specs.Bits.{hasBit};
-ghost use Rattle.gates.specs.Gate.{Name, regions};
-ghost use Rattle.gates.specs.Inner.Regions.{regionCount};
-ghost use Rattle.tables.specs.Table.{someOf, nthRegion, numberOf, references};
-ghost use Rattle.graph.specs.Inner.Rows.{Referring};
-ghost use Rattle.resolve.specs.Inner.Reading.{fieldsAt, gatesAt};
-ghost use Rattle.tableregions.specs.Inner.Settled.{Settled};
+ghost use Rattle.text.specs.Bounded.{tab};
+ghost use Rattle.tables.specs.Table.{nthRegion};
+ghost use Rattle.resolve.specs.Inner.Reading.{regionsAt};
+ghost use Rattle.tableregions.specs.Inner.Located.{locatedAt, rowOf};
 use gatelines::regions::region_count;
 use gatelines::regions::region_name;
 use graph::Rows;
@@ -28,9 +22,9 @@ pub struct Located {
     pub quadrant: usize,
 }
 
-// Where region r stands among n gates.
+// Where region r stands among n gates; at gate n where there is no such region.
 pub fn locate(text: &[u8], starts: Starts, n: usize, r: usize) -> Located
-    ensures { λ x. ⌜ (r < length (regions (gatesAt (now (text .entry)) (starts .at) n)) → (x .gate < n) × (x .quadrant < regionCount (fieldsAt (now (text .entry)) (starts .at) (x .gate))) × (r ≡ length (regions (gatesAt (now (text .entry)) (starts .at) (x .gate))) + x .quadrant)) ⌝ }
+    ensures { λ x. ⌜ x ≡ locatedAt (now (text .entry)) (starts .at) n r ⌝ }
 {
     let mut left = r;
     let mut i = 0;
@@ -51,22 +45,28 @@ pub fn locate(text: &[u8], starts: Starts, n: usize, r: usize) -> Located
     }
 }
 
-// The name of region r of n gates.
+// The name of region r of n gates, and nothing where there is no such region.
 pub fn name_at(text: &[u8], starts: Starts, n: usize, r: usize) -> &[u8]
-    ensures { λ x. ⌜ (r < length (regions (gatesAt (now (text .entry)) (starts .at) n)) → now x ≡ nthRegion (regions (gatesAt (now (text .entry)) (starts .at) n)) r .name) ⌝ }
+    ensures { λ x. ⌜ now x ≡ nthRegion (regionsAt (now (text .entry)) (starts .at) n) r .name ⌝ }
 {
     let at = locate(text, starts, n, r);
     let gate = at.gate;
     let quadrant = at.quadrant;
+    if n <= gate {
+        return &text[..0];
+    }
     region_name(line_at(text, starts, gate), quadrant)
 }
 
-// The regions that region r of n gates refers to, as bits.
+// The regions that region r of n gates refers to, as bits; none where there is no such region.
 fn region_row(text: &[u8], starts: Starts, n: usize, r: usize) -> u64
-    ensures { λ x. ⌜ (Settled (now (text .entry)) (starts .at) n → r < length (regions (gatesAt (now (text .entry)) (starts .at) n)) → (k : ℕ) → hasBit x k ≡ someOf (λ (m : Name). eqb (numberOf (regions (gatesAt (now (text .entry)) (starts .at) n)) m) k) (references (nthRegion (regions (gatesAt (now (text .entry)) (starts .at) n)) r))) ⌝ }
+    ensures { λ x. ⌜ x ≡ rowOf (regionsAt (now (text .entry)) (starts .at) n) r ⌝ }
 {
     let at = locate(text, starts, n, r);
     let gate = at.gate;
+    if n <= gate {
+        return 0;
+    }
     let line = line_at(text, starts, gate);
     let end = reference_end(line);
     let mut row = 0u64;
@@ -81,7 +81,7 @@ fn region_row(text: &[u8], starts: Starts, n: usize, r: usize) -> u64
 
 // The references of the regions of n gates, row by row.
 pub fn region_rows(text: &[u8], starts: Starts, n: usize) -> Rows
-    ensures { λ x. ⌜ (Settled (now (text .entry)) (starts .at) n → Referring (regions (gatesAt (now (text .entry)) (starts .at) n)) (x .bits)) ⌝ }
+    ensures { λ x. ⌜ x .bits ≡ tab (rowOf (regionsAt (now (text .entry)) (starts .at) n)) 64 ⌝ }
 {
     let mut rows = no_rows();
     let mut r = 0;

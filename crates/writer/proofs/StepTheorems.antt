@@ -1,7 +1,8 @@
 -- What is written for a region of an accepted line is its step in the table.
 use mathlib.Core.Path.{_≡_, refl, sym, ap, _∙_}
 use mathlib.Core.Bool.{Bool, true, false, cond}
-use mathlib.Core.List.{List, _++_}
+use mathlib.Core.Logic.{_⊎_, inl, inr}
+use mathlib.Core.List.{List}
 use Prim.Native.Nat.{ℕ, _+_, _-_, _*_, _%_, _≤_, _<_, min}
 use native.Mathlib.Omega.{arith}
 use borrow.Author.Tests.{leb-true, eqb-true, lt-ltb}
@@ -9,7 +10,7 @@ use lib.Dec.{eqb, leb}
 use lib.IntN.{ℤ, pos}
 use lib.ListN.{length}
 use Rattle.text.specs.Bounded.{tab}
-use Rattle.text.proofs.TestLaws.{true≢false, and-left, and-right}
+use Rattle.text.proofs.TestLaws.{true≢false, and-left, and-right, passed-or-failed}
 use Rattle.text.proofs.BoundedLaws.{length-tab, tab-ext}
 use Rattle.plans.specs.Form.{spans, spansBy}
 use Rattle.plans.proofs.IndexLaws.{first-to}
@@ -27,7 +28,8 @@ use Rattle.gates.proofs.QuadLaws.{count-small}
 use Rattle.gates.proofs.GateLaws.{map-tab, leaf-words, line-accepted}
 use Rattle.tables.specs.Table.{nthRegion, otherName, numberOf}
 use Rattle.tables.specs.Steps.{kindNumber, shapeKind, referenceWord, bodyWords, parentWord, stepWords}
-use Rattle.writer.specs.Inner.Words.{numberWord, parentNumberWord, header, operandNumberWord, combines, operandAt}
+use Rattle.writer.specs.Inner.Words.{numberWord, parentNumberWord, header, operandNumberWord, stepBy, combines, operandAt, parentNumber, lineStep}
+use Rattle.writer.proofs.WordLaws.{step-length}
 
 -- ---- numbers that are words as they are
 
@@ -42,13 +44,17 @@ number-few rs n = omega (arith, first-to (otherName rs n) 0 (length rs))
 -- ---- the parent
 
 module _ (rs : List Region) (x : List ℕ) where
-  pub parent-none : isNone x ≡ true → parentNumberWord 64 ≡ parentWord rs (parentOf x)
+  -- a parent that is named is a region
+  parent-is : (isNone x ≡ false → numberOf rs x < 64) → parentNumberWord (cond (isNone x) 64 (min 64 (numberOf rs x))) ≡ parentWord rs (parentOf x)
   unfolding parentNumberWord parentOf
-  parent-none e = rw e
-
-  pub parent-some : isNone x ≡ false → numberOf rs x < 64 → parentNumberWord (numberOf rs x) ≡ parentWord rs (parentOf x)
-  unfolding parentNumberWord parentOf
-  parent-some e h = rw (e, lt-ltb (numberOf rs x) 64 h)
+  parent-is h = go (passed-or-failed (isNone x))
+    where
+      go : (isNone x ≡ true) ⊎ (isNone x ≡ false) → parentNumberWord (cond (isNone x) 64 (min 64 (numberOf rs x))) ≡ parentWord rs (parentOf x)
+      go (inl e) = rw e
+      go (inr e) =
+          let b : numberOf rs x < 64 = h e in
+          let m : min 64 (numberOf rs x) ≡ numberOf rs x = omega arith in
+          rw (e, m, lt-ltb (numberOf rs x) 64 b)
 
 -- ---- by the kind of an accepted line
 
@@ -106,7 +112,7 @@ operands-in rs head Unknown fs q a c = absurd (true≢false (sym c))
 
 -- ---- the step of a region
 
-pub body-short : (head fs : List (List ℕ)) → lineRefusal head fs ≡ noRefusal → bodyLength fs ≤ 65535
+body-short : (head fs : List (List ℕ)) → lineRefusal head fs ≡ noRefusal → bodyLength fs ≤ 65535
 unfolding bodyLength
 body-short head fs good = length-in head (lineKind fs) fs (line-accepted head fs good)
 
@@ -121,7 +127,7 @@ module _ (rs : List Region) (few : length rs ≤ 64) (r : ℕ) (below : r < leng
   kind-is = kind-in head (lineKind fs) fs q (line .known)
 
   -- the step, where the body is known
-  whole : (f : ℕ → ℤ) → bodyWords rs (regionShape head fs q) ≡ tab f (bodyLength fs) → header (stepNumber (lineKind fs)) r p (bodyLength fs) ++ tab f (bodyLength fs) ≡ stepWords rs r
+  whole : (f : ℕ → ℤ) → bodyWords rs (regionShape head fs q) ≡ tab f (bodyLength fs) → stepBy fs r p f ≡ stepWords rs r
   unfolding header stepWords
   whole f e = rw (here, e, length-tab f (bodyLength fs), parent, number-kept r (omega arith), number-kept (bodyLength fs) (body-short head fs good), kind-is)
 
@@ -129,8 +135,7 @@ module _ (rs : List Region) (few : length rs ≤ 64) (r : ℕ) (below : r < leng
   unfolding regionShape
   the-leaf c = leaf-in head (lineKind fs) fs q (line .known) c
 
-  pub leaf-step : length head ≤ 8 → q < regionCount fs → combines (lineKind fs) ≡ false
-      → header (stepNumber (lineKind fs)) r p (bodyLength fs) ++ tab (bodyWordOf head fs q) (bodyLength fs) ≡ stepWords rs r
+  leaf-step : length head ≤ 8 → q < regionCount fs → combines (lineKind fs) ≡ false → stepBy fs r p (bodyWordOf head fs q) ≡ stepWords rs r
   leaf-step eight h c = let l = the-leaf c in whole (bodyWordOf head fs q) (ap (bodyWords rs) (l .1) ∙ leaf-words head fs eight q h (l .0) (l .1) .1)
 
   operands : combines (lineKind fs) ≡ true → bodyWords rs (regionShape head fs q) ≡ tab (reference rs fs) (bodyLength fs)
@@ -141,12 +146,32 @@ module _ (rs : List Region) (few : length rs ≤ 64) (r : ℕ) (below : r < leng
   unfolding operandAt operandNumberWord
   operand-same j =
       let x = fieldAt fs (3 + j) in
-      sym (number-kept (2 * numberOf rs (operandName x) + cond (isComplement x) 1 0) (omega (arith, number-few rs (operandName x), bit (isComplement x))))
+      let m : min 64 (numberOf rs (operandName x)) ≡ numberOf rs (operandName x) = omega (arith, number-few rs (operandName x)) in
+      sym (rw m (number-kept (2 * numberOf rs (operandName x) + cond (isComplement x) 1 0) (omega (arith, number-few rs (operandName x), bit (isComplement x)))))
     where
       bit : (b : Bool) → cond b 1 0 ≤ 1
       bit true = omega arith
       bit false = omega arith
 
-  pub combination-step : combines (lineKind fs) ≡ true
-      → header (stepNumber (lineKind fs)) r p (bodyLength fs) ++ tab (operandAt rs fs) (bodyLength fs) ≡ stepWords rs r
+  combination-step : combines (lineKind fs) ≡ true → stepBy fs r p (operandAt rs fs) ≡ stepWords rs r
   combination-step c = whole (operandAt rs fs) (operands c ∙ tab-ext (reference rs fs) (operandAt rs fs) (bodyLength fs) (λ j h. operand-same j))
+
+-- ---- as it is written
+
+module _ (rs : List Region) (few : length rs ≤ 64) (r : ℕ) (below : r < length rs) (head fs : List (List ℕ)) (narrow : length head ≤ 8)
+    (good : lineRefusal head fs ≡ noRefusal) (q : ℕ) (inside : q < regionCount fs)
+    (here : nthRegion rs r ≡ record { name = regionName fs q; parent = parentOf (fieldAt fs 2); shape = regionShape head fs q })
+    (known : isNone (fieldAt fs 2) ≡ false → numberOf rs (fieldAt fs 2) < 64) where
+  pub line-step : lineStep head rs fs q r ≡ stepWords rs r
+  unfolding lineStep parentNumber
+  line-step = go (passed-or-failed (combines (lineKind fs)))
+    where
+      go : (combines (lineKind fs) ≡ true) ⊎ (combines (lineKind fs) ≡ false) → lineStep head rs fs q r ≡ stepWords rs r
+      go (inl t) = rw t (combination-step rs few r below head fs good q here _ (parent-is rs (fieldAt fs 2) known) t)
+      go (inr t) = rw t (leaf-step rs few r below head fs good q here _ (parent-is rs (fieldAt fs 2) known) narrow inside t)
+
+  pub line-step-short : length (stepWords rs r) ≤ 65539
+  unfolding lineStep
+  line-step-short =
+      let long = step-length fs r (parentNumber rs fs) (cond (combines (lineKind fs)) (operandAt rs fs) (bodyWordOf head fs q)) in
+      omega (arith, long, ap length line-step, body-short head fs good)

@@ -17,7 +17,7 @@ use Rattle.gates.specs.Quads.{dividerCount}
 use Rattle.gates.specs.Inner.Regions.{bodyLength}
 use Rattle.gates.proofs.QuadLaws.{count-small}
 use Rattle.gatelines.proofs.LineLaws.{fields-length}
-use Rattle.writer.specs.Inner.Words.{numberWord, header}
+use Rattle.writer.specs.Inner.Words.{numberWord, header, stepBy}
 
 -- ---- numbers
 
@@ -80,6 +80,10 @@ module _ (k r p m : ℕ) (body d x : List ℤ) (e : x ≡ over (header k r p m) 
       → take 4 x ++ (y ++ drop (length x - 4) (drop 4 x)) ≡ over (header k r p m ++ body) d
   unfolding header
   step-joined y h f = over-over (header k r p m) d x body y 4 refl (omega (arith, length-kept)) e f
+
+pub step-length : (fs : List (List ℕ)) (r p : ℕ) (word : ℕ → ℤ) → length (stepBy fs r p word) ≡ 4 + bodyLength fs
+unfolding header
+step-length fs r p word = omega (arith, length-tab word (bodyLength fs))
 
 -- no word of the body yet
 pub step-begun : (k r p m : ℕ) (d x : List ℤ) → x ≡ over (header k r p m) d → x ≡ over (header k r p m ++ []) x

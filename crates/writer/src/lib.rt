@@ -1,14 +1,12 @@
 // The step writer: each step is written over the beginning of a slice that is lent, as far as it goes.
 ghost use mathlib.Core.Path.{_≡_};
-ghost use mathlib.Core.List.{_++_};
-ghost use Prim.Native.Nat.{_+_};
 ghost use lib.ListN.{set, drop};
 ghost use Rattle.text.specs.Bounded.{tab};
 ghost use Rattle.text.specs.Lines.{fields};
-ghost use Rattle.text.specs.Output.{over};
+ghost use Rattle.text.specs.Output.{Writes};
 ghost use Rattle.gates.specs.Kinds.{lineKind};
-ghost use Rattle.gates.specs.Inner.Regions.{stepNumber, bodyLength, bodyWordOf};
-ghost use Rattle.writer.specs.Inner.Words.{numberWord, parentNumberWord, header, operandNumberWord, combines as combinesOf};
+ghost use Rattle.gates.specs.Inner.Regions.{bodyLength, bodyWordOf};
+ghost use Rattle.writer.specs.Inner.Words.{numberWord, parentNumberWord, header, operandNumberWord, stepBy, combines as combinesOf};
 use gatefields::fields::kind_of;
 use gatelines::regions::body_length;
 use gatelines::regions::step_number;
@@ -84,7 +82,7 @@ pub fn put_number(rest: &mut [i32], i: usize, n: usize)
 
 // Writes a step's header over the beginning of rest, and answers how many words it has. A parent of 64 or more is none.
 pub fn put_header(rest: &mut [i32], kind: u8, region: usize, parent: usize, length: usize) -> usize
-    ensures { λ r. ⌜ (r ≡ 4) × (now (rest .exit) ≡ over (header kind region parent length) (now (rest .entry))) ⌝ }
+    ensures { λ r. ⌜ Writes (header kind region parent length) (now (rest .entry)) (now (rest .exit)) r ⌝ }
 {
     put_word(rest, 0, kind as i32);
     put_word(rest, 1, number_word(region));
@@ -95,7 +93,8 @@ pub fn put_header(rest: &mut [i32], kind: u8, region: usize, parent: usize, leng
 
 // Writes the body of region q of a box, polygon or ellipse over the beginning of rest, and answers how many words it has.
 pub fn put_leaf(rest: &mut [i32], head: &[u8], line: &[u8], q: usize) -> usize
-    ensures { λ r. ⌜ (r ≡ bodyLength (fields (now (line .entry)))) × (now (rest .exit) ≡ over (tab (bodyWordOf (drop 1 (fields (now (head .entry)))) (fields (now (line .entry))) q) (bodyLength (fields (now (line .entry))))) (now (rest .entry))) ⌝ }
+    ensures { λ r. ⌜ Writes (tab (bodyWordOf (drop 1 (fields (now (head .entry)))) (fields (now (line .entry))) q) (bodyLength (fields (now (line .entry)))))
+        (now (rest .entry)) (now (rest .exit)) r ⌝ }
 {
     let n = body_length(line);
     let mut i = 0;
@@ -122,7 +121,8 @@ pub fn put_leaf_step(
     region: usize,
     parent: usize,
 ) -> usize
-    ensures { λ r. ⌜ (r ≡ 4 + bodyLength (fields (now (line .entry)))) × (now (rest .exit) ≡ over (header (stepNumber (lineKind (fields (now (line .entry))))) region parent (bodyLength (fields (now (line .entry)))) ++ tab (bodyWordOf (drop 1 (fields (now (head .entry)))) (fields (now (line .entry))) q) (bodyLength (fields (now (line .entry))))) (now (rest .entry))) ⌝ }
+    ensures { λ r. ⌜ Writes (stepBy (fields (now (line .entry))) region parent (bodyWordOf (drop 1 (fields (now (head .entry)))) (fields (now (line .entry))) q))
+        (now (rest .entry)) (now (rest .exit)) r ⌝ }
 {
     put_header(rest, step_number(line), region, parent, body_length(line));
     if rest.len() < 4 {

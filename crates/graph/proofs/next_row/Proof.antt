@@ -30,14 +30,15 @@ is-within-requires c κs = search needs
 
 returns : tie.Need-returns Inv-loop μ-loop
 returns c =
-    let after-row-at = c .before .before .before in
-    let at-test = after-row-at .before .before .before in
-    let loop = at-test .before .loop in
-    let args = at-test .before .before .args in
-    sym (loop .inv .1
-    ∙ first-stop (held (args .t1 .bits) (args .set)) (args .n) (loop .r) (at-test .loop-test .taken)
-    (held-not (args .t1 .bits) (args .set) (loop .r) _ _ _ (after-row-at .row-at .ensures) (c .before .before .has-bit .ensures) (c .before .is-within .ensures)
-    (c .if1 .taken)))
+    let entry = c .before .before .before .before .before .before .before .before in
+    let t1 = entry .args .t1 .bits in
+    let set = entry .args .set in
+    let head = c .before .before .before .before .before .before .before .loop in
+    let loop-test = c .before .before .before .before .before .before .loop-test in
+    let row-at = c .before .before .before .row-at in
+    let has-bit = c .before .before .has-bit in
+    sym (head .inv .1 ∙ first-stop (held (t1) (set)) (entry .args .n) (head .r) (loop-test .taken)
+    (held-not (t1) (set) (head .r) _ _ _ (row-at .ensures) (has-bit .ensures) (c .before .is-within .ensures) (c .if1 .taken)))
 
 add-r : tie.Need-add-r Inv-loop μ-loop
 add-r c = search needs
@@ -47,22 +48,23 @@ loop-less c = search needs
 
 loop-again : tie.Need-loop-again Inv-loop μ-loop
 loop-again c =
-    let after-row-at = c .before .before .before in
-    let at-test = after-row-at .before .before .before in
-    let loop = at-test .before .loop in
-    let args = at-test .before .before .args in (
+    let entry = c .before .before .before .before .before .before .before .before in
+    let t1 = entry .args .t1 .bits in
+    let set = entry .args .set in
+    let head = c .before .before .before .before .before .before .before .loop in
+    let loop-test = c .before .before .before .before .before .before .loop-test in
+    let row-at = c .before .before .before .row-at in
+    let has-bit = c .before .before .has-bit in (
       search needs,
-      loop .inv .1
-          ∙ first-more (held (args .t1 .bits) (args .set)) (args .n) (loop .r) (at-test .loop-test .taken)
-          (held-still (args .t1 .bits) (args .set) (loop .r) _ _ _ (after-row-at .row-at .ensures) (c .before .before .has-bit .ensures)
-          (c .before .is-within .ensures) (c .if1 .left)),
+      head .inv .1 ∙ first-more (held (t1) (set)) (entry .args .n) (head .r) (loop-test .taken)
+          (held-still (t1) (set) (head .r) _ _ _ (row-at .ensures) (has-bit .ensures) (c .before .is-within .ensures) (c .if1 .left)),
     )
 
 returns-2 : tie.Need-returns-2 Inv-loop μ-loop
 returns-2 c =
-    let loop = c .before .loop in
-    let args = c .before .before .args in
-    sym (loop .inv .1 ∙ first-end (held (args .t1 .bits) (args .set)) (args .n) (loop .r) (c .loop-test .left))
+    let entry = c .before .before in
+    let head = c .before .loop in
+    sym (head .inv .1 ∙ first-end (held (entry .args .t1 .bits) (entry .args .set)) (entry .args .n) (head .r) (c .loop-test .left))
 
 pub next-row-spec : {M : Type 1} → statement M
 next-row-spec =

@@ -31,24 +31,25 @@ loop-less c = search needs
 
 loop-again : tie.Need-loop-again Inv-loop μ-loop
 loop-again c =
-    let at-loop = c .before .before .before in
-    let loop = at-loop .loop in (
+    let entry = c .before .before .before .before .before in
+    let head = c .before .before .before .loop in (
       search needs,
-      loop .inv .1,
-      rw (c .round .ensures) (round-length (loop .r .bits) (loop .s) ∙ loop .inv .2),
+      head .inv .1,
+      rw (c .round .ensures) (round-length (head .r .bits) (head .s) ∙ head .inv .2),
       rw (c .round .ensures)
-          (round-next (at-loop .before .before .args .rows .bits) (loop .r .bits) (loop .s) (loop .inv .2 ∙ sym (loop .inv .1)) (loop .inv .3)),
+          (round-next (entry .args .rows .bits) (head .r .bits) (head .s) (head .inv .2 ∙ sym (head .inv .1)) (head .inv .3)),
     )
 
 returns : tie.Need-returns Inv-loop μ-loop
 returns c =
-    let after-at-most-64 = c .before .before in
-    let loop = c .before .loop in
+    let entry = c .before .before .before in
+    let at-most-64 = c .before .before .at-most-64 in
+    let head = c .before .loop in
     let h = c .loop-test .left in
-    let args = after-at-most-64 .before .args in
-    let i = loop .inv .0 in
-    let e : loop .s ≡ after-at-most-64 .at-most-64 .result = omega arith in
-    λ a b. loop .inv .3 a b ∙ rw (e, after-at-most-64 .at-most-64 .ensures) (rounds-past (args .rows .bits) 64 (args .n) a b (omega (arith, loop .inv .1)))
+    let i = head .inv .0 in
+    let e : head .s ≡ at-most-64 .result = omega arith in
+    λ a b. head .inv .3 a b ∙ rw (e, at-most-64 .ensures) (rounds-past (entry .args .rows .bits) 64 (entry .args .n) a b
+    (omega (arith, head .inv .1)))
 
 pub reach-spec : {M : Type 1} → statement M
 reach-spec =

@@ -47,26 +47,24 @@ loop-less c = search needs
 
 loop-again : tie.Need-loop-again Inv-loop μ-loop
 loop-again c =
-    let at-loop = c .before .before .before in
-    let entry = at-loop .before .before .before in
-    let loop = at-loop .loop in
-    let h = c .before .before .loop-test .taken in
-    let args = entry .args in
-    let long : length (args .rows .now) ≡ 64 = entry .pre in (
-      search needs,
-      row-put (args .rows .now) (loop .rows) (args .s) (loop .i) _ _ (omega arith) (loop .inv .1) (at-loop .before .row-at .ensures) (c .put-into .ensures),
-    )
+    let entry = c .before .before .before .before .before .before in
+    let rows = entry .args .rows .now in
+    let row-at = c .before .before .before .before .row-at in
+    let head = c .before .before .before .loop in
+    let loop-test = c .before .before .loop-test in
+    let long : length (rows) ≡ 64 = entry .pre in
+    let h = loop-test .taken in
+    (search needs, row-put (rows) (head .rows) (entry .args .s) (head .i) _ _ (omega arith) (head .inv .1) (row-at .ensures) (c .put-into .ensures))
 
 returns : tie.Need-returns Inv-loop μ-loop
 returns c =
     let entry = c .before .before .before .before in
-    let loop = c .before .loop in
+    let rows = entry .args .rows .now in
+    let head = c .before .loop in
+    let long : length (rows) ≡ 64 = entry .pre in
     let h = c .loop-test .left in
-    let args = entry .args in
-    let rows = args .rows .now in
-    let long : length rows ≡ 64 = entry .pre in
-    let e : loop .i ≡ length rows = omega arith in
-    loop .inv .1 ∙ rw e (all-written (joined rows (args .s)) rows)
+    let e : head .i ≡ length (rows) = omega arith in
+    head .inv .1 ∙ rw e (all-written (joined (rows) (entry .args .s)) (rows))
 
 pub round-spec : {M : Type 1} → statement M
 round-spec =

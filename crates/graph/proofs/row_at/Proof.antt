@@ -17,10 +17,11 @@ returns c = search needs
 
 returns-2 : tie.Need-returns-2
 returns-2 c =
-    let args = c .before .args in
+    let entry = c .before in
+    let rows = entry .args .rows .now in
+    let long : length (rows) ≡ 64 = entry .pre in
     let h = c .if1 .left in
-    let long : length (args .rows .now) ≡ 64 = c .before .pre in
-    sym (List·getD-eq-default (args .rows .now) 0 (omega arith))
+    sym (List·getD-eq-default (rows) 0 (omega arith))
 
 pub row-at-spec : {M : Type 1} → statement M
 row-at-spec = tie.close (tie.spec mul-result element-copy-out-result returns returns-2)

@@ -5,7 +5,7 @@ use mathlib.Core.List.{List}
 use Prim.Native.Nat.{ℕ, _<_}
 use lib.Bits.{bitOr}
 use lib.Dec.{eqb}
-use lib.ListN.{length, getD}
+use lib.ListN.{length, getD, replicate}
 use Rattle.plans.specs.Bits.{hasBit}
 use Rattle.gates.specs.Gate.{Name, Region}
 use Rattle.tables.specs.Table.{someOf, nthRegion, numberOf, references}
@@ -13,6 +13,10 @@ use Rattle.tables.specs.Table.{someOf, nthRegion, numberOf, references}
 -- row a has bit b
 unfoldable pub bitAt : List ℕ → ℕ → ℕ → Bool
 bitAt rows a b = hasBit (getD rows a 0) b
+
+-- 64 rows with no bit
+unfoldable pub zeroRows : List ℕ
+zeroRows = replicate 64 0
 
 -- row i once row s is put into each row that has bit s
 unfoldable pub joined : List ℕ → ℕ → ℕ → ℕ

@@ -32,14 +32,15 @@ same-requires c κs = search needs
 
 returns : tie.Need-returns Inv-loop μ-loop
 returns c =
-    let at-test = c .before .before .before in
-    let j = at-test .before .loop in
-    let args = at-test .before .before .before .before .before .args in
-    let x = args .x .now in
-    let f = fields (args .line .now) in
-    sym (j .inv .1
-    ∙ first-stop (otherQuadrant f x) _ (j .q) (at-test .loop-test .taken)
-    (quadrant-here f (j .q) x (c .before .same .ensures) (c .before .before .quadrant-name .ensures) (c .if1 .taken)))
+    let entry = c .before .before .before .before .before .before .before .before in
+    let head = c .before .before .before .before .loop in
+    let loop-test = c .before .before .before .loop-test in
+    let quadrant-name = c .before .before .quadrant-name in
+    let f = fields (entry .args .line .now) in
+    let x = entry .args .x .now in
+    let j = head in
+    sym (j .inv .1 ∙ first-stop (otherQuadrant f x) _ (j .q) (loop-test .taken)
+    (quadrant-here f (j .q) x (c .before .same .ensures) (quadrant-name .ensures) (c .if1 .taken)))
 
 add-q : tie.Need-add-q Inv-loop μ-loop
 add-q c = search needs
@@ -49,23 +50,24 @@ loop-less c = search needs
 
 loop-again : tie.Need-loop-again Inv-loop μ-loop
 loop-again c =
-    let at-test = c .before .before .before in
-    let j = at-test .before .loop in
-    let args = at-test .before .before .before .before .before .args in
-    let x = args .x .now in
-    let f = fields (args .line .now) in (
+    let entry = c .before .before .before .before .before .before .before .before in
+    let head = c .before .before .before .before .loop in
+    let loop-test = c .before .before .before .loop-test in
+    let quadrant-name = c .before .before .quadrant-name in
+    let f = fields (entry .args .line .now) in
+    let x = entry .args .x .now in
+    let j = head in (
       search needs,
-      j .inv .1
-          ∙ first-more (otherQuadrant f x) _ (j .q) (at-test .loop-test .taken)
-          (quadrant-other f (j .q) x (c .before .same .ensures) (c .before .before .quadrant-name .ensures) (c .if1 .left)),
+      j .inv .1 ∙ first-more (otherQuadrant f x) _ (j .q) (loop-test .taken)
+          (quadrant-other f (j .q) x (c .before .same .ensures) (quadrant-name .ensures) (c .if1 .left)),
     )
 
 returns-2 : tie.Need-returns-2 Inv-loop μ-loop
 returns-2 c =
+    let entry = c .before .before .before .before .before in
+    let f = fields (entry .args .line .now) in
+    let x = entry .args .x .now in
     let j = c .before .loop in
-    let args = c .before .before .before .before .before .args in
-    let x = args .x .now in
-    let f = fields (args .line .now) in
     sym (j .inv .1 ∙ first-end (otherQuadrant f x) _ (j .q) (c .loop-test .left))
 
 pub find-quadrant-spec : {M : Type 1} → statement M

@@ -19,8 +19,9 @@ quad-count-requires c κs = search needs
 returns : tie.Need-returns
 unfolding givesName
 returns c =
-    let after-field = c .before .before .before in
-    rw (c .quad-count .ensures, c .before .find-quadrant .ensures, c .before .before .same .ensures, after-field .field .ensures)
+    let field = c .before .before .before .field in
+    let same = c .before .before .same in
+    rw (c .quad-count .ensures, c .before .find-quadrant .ensures, same .ensures, field .ensures)
 
 pub gives-name-spec : {M : Type 1} → statement M
 gives-name-spec =

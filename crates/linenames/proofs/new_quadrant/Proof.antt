@@ -19,8 +19,9 @@ find-quadrant-requires c κs = search needs
 returns : tie.Need-returns
 unfolding newQuadrant
 returns c =
-    let after-quadrant-name = c .before .before .before in
-    rw (c .find-quadrant .ensures, c .before .same .ensures, c .before .before .field .ensures, after-quadrant-name .quadrant-name .ensures)
+    let quadrant-name = c .before .before .before .quadrant-name in
+    let field = c .before .before .field in
+    rw (c .find-quadrant .ensures, c .before .same .ensures, field .ensures, quadrant-name .ensures)
 
 pub new-quadrant-spec : {M : Type 1} → statement M
 new-quadrant-spec =

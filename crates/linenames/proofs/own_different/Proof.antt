@@ -31,10 +31,12 @@ new-quadrant-requires c κs = search needs
 returns : tie.Need-returns Inv-loop μ-loop
 unfolding ownDifferent
 returns c =
-    let at-loop = c .before .before .before in
-    let entry = at-loop .before .before .before in
+    let entry = c .before .before .before .before .before .before in
+    let quad-count = c .before .before .before .before .quad-count in
+    let head = c .before .before .before .loop in
+    let loop-test = c .before .before .loop-test in
     let f = fields (entry .args .line .now) in
-    sym (all-stop (newQuadrant f) (quadCount f) (at-loop .loop .q) (rw (← at-loop .before .quad-count .ensures) (c .before .before .loop-test .taken))
+    sym (all-stop (newQuadrant f) (quadCount f) (head .q) (rw (← quad-count .ensures) (loop-test .taken))
     (sym (c .before .new-quadrant .ensures) ∙ not-true _ (c .if1 .taken)))
 
 add-q : tie.Need-add-q Inv-loop μ-loop
@@ -45,21 +47,20 @@ loop-less c = search needs
 
 loop-again : tie.Need-loop-again Inv-loop μ-loop
 loop-again c =
-    let at-loop = c .before .before .before in
-    let entry = at-loop .before .before .before in
-    let loop = at-loop .loop in
+    let entry = c .before .before .before .before .before .before in
+    let head = c .before .before .before .loop in
     let f = fields (entry .args .line .now) in
-    (search needs, all-more (newQuadrant f) (loop .q) (loop .inv .1) (sym (c .before .new-quadrant .ensures) ∙ not-false _ (c .if1 .left)))
+    (search needs, all-more (newQuadrant f) (head .q) (head .inv .1) (sym (c .before .new-quadrant .ensures) ∙ not-false _ (c .if1 .left)))
 
 returns-2 : tie.Need-returns-2 Inv-loop μ-loop
 unfolding ownDifferent
 returns-2 c =
-    let after-quad-count = c .before .before in
-    let loop = c .before .loop in
+    let quad-count = c .before .before .quad-count in
+    let head = c .before .loop in
     let h = c .loop-test .left in
-    let i = loop .inv .0 in
-    let e : after-quad-count .quad-count .result ≡ loop .q = omega arith in
-    sym (rw (← after-quad-count .quad-count .ensures, e) (loop .inv .1))
+    let i = head .inv .0 in
+    let e : quad-count .result ≡ head .q = omega arith in
+    sym (rw (← quad-count .ensures, e) (head .inv .1))
 
 pub own-different-spec : {M : Type 1} → statement M
 own-different-spec =

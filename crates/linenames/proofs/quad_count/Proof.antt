@@ -19,8 +19,9 @@ pick-requires c κs = search needs
 returns : tie.Need-returns
 unfolding quadCount
 returns c =
-    let after-kind-of = c .before .before .before in
-    rw (c .pick .ensures, c .before .before .is-quad .ensures, after-kind-of .kind-of .ensures, c .before .quadrant-count .ensures)
+    let kind-of = c .before .before .before .kind-of in
+    let is-quad = c .before .before .is-quad in
+    rw (c .pick .ensures, is-quad .ensures, kind-of .ensures, c .before .quadrant-count .ensures)
 
 pub quad-count-spec : {M : Type 1} → statement M
 quad-count-spec =

@@ -14,8 +14,8 @@ field-requires c κs = search needs
 
 returns : tie.Need-returns
 returns c =
-    let args = c .before .before .before .args in
-    c .field .ensures ∙ quadrant-read (fields (args .line .now)) (args .q) _ (c .before .quadrant-at .ensures)
+    let entry = c .before .before .before in
+    c .field .ensures ∙ quadrant-read (fields (entry .args .line .now)) (entry .args .q) _ (c .before .quadrant-at .ensures)
 
 pub quadrant-name-spec : {M : Type 1} → statement M
 quadrant-name-spec = tie.close (tie.spec quadrant-at-requires field-requires returns)

@@ -10,7 +10,9 @@ field-requires c κs = search needs
 
 returns : tie.Need-returns
 unfolding referenceAt
-returns c = rw (eq-eqb (c .before .before .before .args .k) 2 (c .before .if1 .taken)) (c .field .ensures)
+returns c =
+    let entry = c .before .before .before in
+    rw (eq-eqb (entry .args .k) 2 (c .before .if1 .taken)) (c .field .ensures)
 
 field-requires-2 : tie.Need-field-requires-2
 field-requires-2 c κs = search needs
@@ -22,7 +24,8 @@ returns-2 : tie.Need-returns-2
 unfolding referenceAt
 returns-2 c =
     let entry = c .before .before .before .before in
-    rw (ne-eqb (entry .args .k) 2 (c .before .before .if1 .left), c .operand-name .ensures, c .before .field2 .ensures)
+    let if1 = c .before .before .if1 in
+    rw (ne-eqb (entry .args .k) 2 (if1 .left), c .operand-name .ensures, c .before .field2 .ensures)
 
 pub reference-spec : {M : Type 1} → statement M
 reference-spec =

@@ -15,7 +15,9 @@ end-in-requires c κs = search needs
 
 returns : tie.Need-returns
 unfolding referenceEnd
-returns c = (rw (c .end-in .ensures .0, c .before .before .kind-of .ensures, c .before .field-count .ensures), c .end-in .ensures .1)
+returns c =
+    let kind-of = c .before .before .kind-of in
+    (rw (c .end-in .ensures .0, kind-of .ensures, c .before .field-count .ensures), c .end-in .ensures .1)
 
 pub reference-end-spec : {M : Type 1} → statement M
 reference-end-spec =

@@ -12,8 +12,7 @@ use Rattle.linenames.proofs.refers_to.Statement.{statement}
 use Rattle.linenames.proofs.refers_to.Tie as tie
 
 abbrev Inv-loop : tie.InvT-loop
-Inv-loop line other end k₀ k =
-    (2 ≤ k) × (k ≤ end) × (firstBad (passesBy (fields line) (fields other)) 2 (end - 2) ≡ firstBad (passesBy (fields line) (fields other)) k (end - k))
+Inv-loop line other end k₀ k = (2 ≤ k) × (k ≤ end) × (firstBad (passesBy (fields line) (fields other)) 2 (end - 2) ≡ firstBad (passesBy (fields line) (fields other)) k (end - k))
 
 abbrev μ-loop : tie.MeasureT-loop
 μ-loop line other end k₀ k = end - k
@@ -35,18 +34,17 @@ names-region-requires c κs = search needs
 
 returns : tie.Need-returns Inv-loop μ-loop
 returns c =
-    let after-has-reference = c .before .before .before in
-    let at-test = after-has-reference .before in
-    let j = at-test .before .loop in
-    let args = at-test .before .before .before .before .before .args in
-    let f = fields (args .line .now) in
-    let g = fields (args .other .now) in
-    refers-found f g (at-test .before .before .reference-end .ensures .0)
-    (j .inv .2
-    ∙ first-stop (passesBy f g) _ (j .k) (at-test .loop-test .taken)
-    (passes-not f g (j .k) (after-has-reference .has-reference .ensures) (c .before .before .reference .ensures) (c .before .names-region .ensures)
-    (c .if1 .taken)))
-    (at-test .loop-test .taken)
+    let entry = c .before .before .before .before .before .before .before .before .before in
+    let reference-end = c .before .before .before .before .before .before .reference-end in
+    let head = c .before .before .before .before .before .loop in
+    let loop-test = c .before .before .before .before .loop-test in
+    let has-reference = c .before .before .before .has-reference in
+    let reference = c .before .before .reference in
+    let f = fields (entry .args .line .now) in
+    let g = fields (entry .args .other .now) in
+    let j = head in
+    refers-found f g (reference-end .ensures .0) (j .inv .2 ∙ first-stop (passesBy f g) _ (j .k) (loop-test .taken)
+    (passes-not f g (j .k) (has-reference .ensures) (reference .ensures) (c .before .names-region .ensures) (c .if1 .taken))) (loop-test .taken)
 
 add-k : tie.Need-add-k Inv-loop μ-loop
 add-k c = search needs
@@ -56,26 +54,28 @@ loop-less c = search needs
 
 loop-again : tie.Need-loop-again Inv-loop μ-loop
 loop-again c =
-    let after-has-reference = c .before .before .before in
-    let j = after-has-reference .before .before .loop in
-    let args = after-has-reference .before .before .before .before .before .before .args in
-    let f = fields (args .line .now) in
-    let g = fields (args .other .now) in (
+    let entry = c .before .before .before .before .before .before .before .before .before in
+    let head = c .before .before .before .before .before .loop in
+    let loop-test = c .before .before .before .before .loop-test in
+    let has-reference = c .before .before .before .has-reference in
+    let reference = c .before .before .reference in
+    let f = fields (entry .args .line .now) in
+    let g = fields (entry .args .other .now) in
+    let j = head in (
       search needs,
       search needs,
-      j .inv .2
-          ∙ first-more (passesBy f g) _ (j .k) (after-has-reference .before .loop-test .taken)
-          (passes-still f g (j .k) (after-has-reference .has-reference .ensures) (c .before .before .reference .ensures) (c .before .names-region .ensures)
-          (c .if1 .left)),
+      j .inv .2 ∙ first-more (passesBy f g) _ (j .k) (loop-test .taken)
+          (passes-still f g (j .k) (has-reference .ensures) (reference .ensures) (c .before .names-region .ensures) (c .if1 .left)),
     )
 
 returns-2 : tie.Need-returns-2 Inv-loop μ-loop
 returns-2 c =
+    let entry = c .before .before .before .before .before in
+    let reference-end = c .before .before .reference-end in
+    let f = fields (entry .args .line .now) in
+    let g = fields (entry .args .other .now) in
     let j = c .before .loop in
-    let args = c .before .before .before .before .before .args in
-    let f = fields (args .line .now) in
-    let g = fields (args .other .now) in
-    refers-none f g (c .before .before .reference-end .ensures .0) (j .inv .2 ∙ first-end (passesBy f g) _ (j .k) (c .loop-test .left)) (c .loop-test .left)
+    refers-none f g (reference-end .ensures .0) (j .inv .2 ∙ first-end (passesBy f g) _ (j .k) (c .loop-test .left)) (c .loop-test .left)
 
 pub refers-to-spec : {M : Type 1} → statement M
 refers-to-spec =

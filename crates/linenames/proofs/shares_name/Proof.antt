@@ -26,8 +26,9 @@ gives-name-requires c κs = search needs
 
 returns : tie.Need-returns Inv-loop μ-loop
 returns c =
-    let args = c .before .before .before .before .before .args in
-    shared-gate (fields (args .line .now)) (fields (args .other .now)) (c .before .before .field .ensures) (c .before .gives-name .ensures) (c .if1 .taken)
+    let entry = c .before .before .before .before .before in
+    let field = c .before .before .field in
+    shared-gate (fields (entry .args .line .now)) (fields (entry .args .other .now)) (field .ensures) (c .before .gives-name .ensures) (c .if1 .taken)
 
 quad-count-requires : tie.Need-quad-count-requires Inv-loop μ-loop
 quad-count-requires c κs = search needs
@@ -44,15 +45,19 @@ gives-name-requires-2 c κs = search needs
 
 returns-2 : tie.Need-returns-2 Inv-loop μ-loop
 returns-2 c =
-    let at-test = c .before .before .before in
-    let at-if1 = at-test .before .before .before in
-    let loop = at-test .before .loop in
-    let args = at-if1 .before .before .before .before .before .args in
-    let f = fields (args .line .now) in
-    let g = fields (args .other .now) in
-    sym (shared-rest f g (at-if1 .before .before .field .ensures) (at-if1 .before .gives-name .ensures) (at-if1 .if1 .left)
-    ∙ any-stop (sharesQuadrant f g) (quadCount f) (loop .q) (rw (← at-test .before .before .quad-count .ensures) (at-test .loop-test .taken))
-    (shared-is f (loop .q) g (c .before .before .quadrant-name .ensures) (c .before .gives-name2 .ensures) (c .if2 .taken)))
+    let entry = c .before .before .before .before .before .before .before .before .before .before .before in
+    let field = c .before .before .before .before .before .before .before .before .field in
+    let gives-name = c .before .before .before .before .before .before .before .gives-name in
+    let if1 = c .before .before .before .before .before .before .if1 in
+    let quad-count = c .before .before .before .before .before .quad-count in
+    let head = c .before .before .before .before .loop in
+    let loop-test = c .before .before .before .loop-test in
+    let quadrant-name = c .before .before .quadrant-name in
+    let f = fields (entry .args .line .now) in
+    let g = fields (entry .args .other .now) in
+    sym (shared-rest f g (field .ensures) (gives-name .ensures) (if1 .left)
+    ∙ any-stop (sharesQuadrant f g) (quadCount f) (head .q) (rw (← quad-count .ensures) (loop-test .taken))
+    (shared-is f (head .q) g (quadrant-name .ensures) (c .before .gives-name2 .ensures) (c .if2 .taken)))
 
 add-q : tie.Need-add-q Inv-loop μ-loop
 add-q c = search needs
@@ -62,29 +67,30 @@ loop-less c = search needs
 
 loop-again : tie.Need-loop-again Inv-loop μ-loop
 loop-again c =
-    let at-loop = c .before .before .before .before in
-    let loop = at-loop .loop in
-    let args = at-loop .before .before .before .before .before .before .before .args in
-    let f = fields (args .line .now) in
-    let g = fields (args .other .now) in (
+    let entry = c .before .before .before .before .before .before .before .before .before .before .before in
+    let head = c .before .before .before .before .loop in
+    let quadrant-name = c .before .before .quadrant-name in
+    let f = fields (entry .args .line .now) in
+    let g = fields (entry .args .other .now) in (
       search needs,
-      any-more (sharesQuadrant f g) (loop .q) (loop .inv .1)
-          (shared-is f (loop .q) g (c .before .before .quadrant-name .ensures) (c .before .gives-name2 .ensures) (c .if2 .left)),
+      any-more (sharesQuadrant f g) (head .q) (head .inv .1)
+          (shared-is f (head .q) g (quadrant-name .ensures) (c .before .gives-name2 .ensures) (c .if2 .left)),
     )
 
 returns-3 : tie.Need-returns-3 Inv-loop μ-loop
 returns-3 c =
-    let after-quad-count = c .before .before in
-    let after-field = after-quad-count .before .before .before in
-    let loop = c .before .loop in
+    let entry = c .before .before .before .before .before .before .before .before in
+    let field = c .before .before .before .before .before .field in
+    let gives-name = c .before .before .before .before .gives-name in
+    let if1 = c .before .before .before .if1 in
+    let quad-count = c .before .before .quad-count in
+    let head = c .before .loop in
+    let f = fields (entry .args .line .now) in
+    let g = fields (entry .args .other .now) in
     let h = c .loop-test .left in
-    let i = loop .inv .0 in
-    let args = after-field .before .before .before .args in
-    let f = fields (args .line .now) in
-    let g = fields (args .other .now) in
-    let e : after-quad-count .quad-count .result ≡ loop .q = omega arith in
-    sym (shared-rest f g (after-field .field .ensures) (after-quad-count .before .before .gives-name .ensures) (after-quad-count .before .if1 .left)
-    ∙ rw (← after-quad-count .quad-count .ensures, e) (loop .inv .1))
+    let i = head .inv .0 in
+    let e : quad-count .result ≡ head .q = omega arith in
+    sym (shared-rest f g (field .ensures) (gives-name .ensures) (if1 .left) ∙ rw (← quad-count .ensures, e) (head .inv .1))
 
 pub shares-name-spec : {M : Type 1} → statement M
 shares-name-spec =

@@ -30,7 +30,7 @@ add-at c =
     let e = l .before .before .before in
     let a = e .args in
     let rs = regions (gatesAt (a .text .now) (a .starts .at) (a .n)) in
-    let w = lines-next rs (a .tally .counts) (a .out .now) (l .loop .r) (l .loop .at) (l .loop .inv .1) (g .name-at .ensures (omega (arith, e .pre .1))) (p .before .count-at .ensures) (p .put-count-from .ensures) in
+    let w = lines-next rs (a .tally .counts) (a .out .now) (l .loop .r) (l .loop .at) (l .loop .inv .1) (g .name-at .ensures) (p .before .count-at .ensures) (p .put-count-from .ensures) in
     omega (arith, e .pre .0, lines-short rs (a .tally .counts) (a .out .now) (l .loop .r + 1) _ w (a .m) (e .pre .2) (omega arith))
 
 loop-again : tie.Need-loop-again Inv-loop μ-loop
@@ -39,7 +39,7 @@ loop-again c =
     let g = p .before .before .before in
     let l = g .before .before in
     let e = l .before .before .before in
-    (search needs, lines-next _ _ _ (l .loop .r) (l .loop .at) (l .loop .inv .1) (g .name-at .ensures (omega (arith, e .pre .1))) (p .before .count-at .ensures) (p .put-count-from .ensures))
+    (search needs, lines-next _ _ _ (l .loop .r) (l .loop .at) (l .loop .inv .1) (g .name-at .ensures) (p .before .count-at .ensures) (p .put-count-from .ensures))
 
 same-length : tie.Need-same-length Inv-loop μ-loop
 same-length c = ap length (c .before .loop .inv .1 .1) ∙ over-length _ _

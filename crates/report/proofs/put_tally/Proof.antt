@@ -3,6 +3,7 @@ use native.Mathlib.Omega.{arith}
 use borrow.Author.Needs.{needs}
 use Rattle.gates.specs.Gate.{regions}
 use Rattle.tables.specs.Head.{gates}
+use Rattle.resolve.proofs.StartLaws.{places, line-count}
 use Rattle.compiler.proofs.VerdictLaws.{number-accepted}
 use Rattle.report.proofs.AcceptedLaws.{names-short, lines-some, gates-are}
 use Rattle.report.proofs.ReportLaws.{taken-short, spoilt-short, tally-written}
@@ -14,7 +15,7 @@ sub-n c =
     let s = c .before in
     let e = s .before .before .before in
     let t = e .args .text .now in
-    omega (arith, s .starts-of .ensures .0, lines-some 4096 t (number-accepted 4096 t (e .pre .0)))
+    omega (arith, line-count t (s .starts-of .ensures), lines-some 4096 t (number-accepted 4096 t (e .pre .0)))
 
 put-regions-requires : tie.Need-put-regions-requires
 put-regions-requires c κs =
@@ -22,7 +23,7 @@ put-regions-requires c κs =
     let e = s .before .before .before in
     let t = e .args .text .now in
     let a = number-accepted 4096 t (e .pre .0) in
-    rw (gates-are 4096 t a (s .starts-of .result .at) (s .starts-of .ensures .1) (s .starts-of .result .lines) (s .starts-of .ensures .0), e .pre .1)
+    rw (gates-are 4096 t a (s .starts-of .result .at) (places t (s .starts-of .ensures)) (s .starts-of .result .lines) (line-count t (s .starts-of .ensures)), e .pre .1)
     (a .rules .few, omega arith, names-short 4096 t a)
 
 add-b : tie.Need-add-b
@@ -50,7 +51,7 @@ returns c =
     let e = s .before .before .before in
     let t = e .args .text .now in
     let a = number-accepted 4096 t (e .pre .0) in
-    let g = gates-are 4096 t a (s .starts-of .result .at) (s .starts-of .ensures .1) (s .starts-of .result .lines) (s .starts-of .ensures .0) in
+    let g = gates-are 4096 t a (s .starts-of .result .at) (places t (s .starts-of .ensures)) (s .starts-of .result .lines) (line-count t (s .starts-of .ensures)) in
     let r = rw g at (u .put-regions .ensures) in
     tally-written (regions (gates t)) (e .args .tally) (e .args .out .now) (e .args .m) (e .pre .1) (r .0) (w .put-taken .ensures) (v .put-spoilt .ensures)
 

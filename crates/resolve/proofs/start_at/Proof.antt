@@ -19,7 +19,12 @@ returns : tie.Need-returns
 returns c = search needs
 
 returns-2 : tie.Need-returns-2
-returns-2 c = let long : length (c .before .args .t1 .at) ≡ 66 = search needs in let h = c .if1 .left in sym (List·getD-eq-default (c .before .args .t1 .at) 0 (omega arith))
+returns-2 c =
+    let entry = c .before in
+    let t1 = entry .args .t1 .at in
+    let long : length (t1) ≡ 66 = search needs in
+    let h = c .if1 .left in
+    sym (List·getD-eq-default (t1) 0 (omega arith))
 
 pub start-at-spec : {M : Type 1} → statement M
 start-at-spec =

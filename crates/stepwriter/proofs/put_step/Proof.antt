@@ -1,6 +1,7 @@
--- `put_step`: by the kind of the line.
+-- `put_step` meets its contract: by the kind of the line.
 use borrow.Author.Needs.{needs}
-use Rattle.stepwriter.proofs.StepLaws.{combination-written, leaf-written}
+use Rattle.stepwriter.proofs.StepLaws.{combination-is, leaf-is}
+use mathlib.Core.Path.{ap, _∙_}
 use Rattle.stepwriter.proofs.put_step.Statement.{statement}
 use Rattle.stepwriter.proofs.put_step.Tie as tie
 
@@ -9,9 +10,11 @@ returns c =
     let put = c .before in
     let i = put .before .before in
     let parent = i .before .before in
-    λ s h l e.
-    let w = put .put-combination-step .ensures (s .few) in
-    combination-written _ _ _ _ _ _ s h l e (parent .before .line-at .ensures) (parent .parent-number .ensures (s .few)) _ (w .0) (i .before .has-operands .ensures) (i .if1 .taken) (w .1)
+    let a = parent .before .before .before .args in
+    let w = put .put-combination-step .ensures in
+    let words = combination-is (a .text .now) (a .starts .at) (a .n) (a .gate) (a .quadrant) (a .region) (parent .before .line-at .ensures)
+    (parent .parent-number .ensures) (i .before .has-operands .ensures) (i .if1 .taken) in
+    rw words at w
 
 returns-2 : tie.Need-returns-2
 returns-2 c =
@@ -19,9 +22,12 @@ returns-2 c =
     let head = put .before in
     let i = head .before .before in
     let parent = i .before .before in
+    let a = parent .before .before .before .args in
     let w = put .put-leaf-step .ensures in
-    λ s h l e.
-    leaf-written _ _ _ _ _ _ s h l e (parent .before .line-at .ensures) (parent .parent-number .ensures (s .few)) _ (w .0) (i .before .has-operands .ensures) (i .if1 .left) (head .head-line .ensures) (w .1)
+    let words = leaf-is (a .text .now) (a .starts .at) (a .n) (a .gate) (a .quadrant) (a .region) (parent .before .line-at .ensures)
+    (parent .parent-number .ensures) (i .before .has-operands .ensures) (i .if1 .left)
+    (head .head-line .ensures) in
+    rw words at w
 
 pub put-step-spec : {M : Type 1} → statement M
 put-step-spec =

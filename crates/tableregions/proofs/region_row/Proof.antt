@@ -1,35 +1,79 @@
--- `region_row`.
-use Prim.Native.Nat.{_-_, _<_, _≤_}
-use Rattle.gates.specs.Gate.{regions}
-use Rattle.tableregions.proofs.ReferenceLaws.{Gathered, gathered-none, row-next, row-done}
-use Rattle.tableregions.specs.Inner.Settled.{Settled}
-use Rattle.resolve.specs.Inner.Reading.{gatesAt}
-use Rattle.tables.specs.Head.{dimensions}
-use Rattle.tables.specs.Table.{numberOf}
+-- `region_row` meets its contract: the numbers of the references in the fields before k are gathered.
+use Rattle.tableregions.proofs.PlaceLaws.{no-region}
+use Rattle.tableregions.proofs.ReferenceLaws.{Gathered, gathered-more, gathered-all}
+use Rattle.tableregions.specs.Inner.Located.{withNumbers, rowOf}
 use Rattle.text.specs.Lines.{fields}
+use Rattle.gates.specs.Gate.{Region}
+use Rattle.tables.specs.Table.{references}
+use Rattle.resolve.specs.Inner.Reading.{regionsAt}
 use borrow.Author.Needs.{needs}
-use mathlib.Core.Path.{_≡_}
 use native.Mathlib.Omega.{arith}
+use Prim.Native.Nat.{_-_, _≤_}
+use mathlib.Core.Path.{refl, sym, ap}
 use Rattle.tableregions.proofs.region_row.Statement.{statement}
 use Rattle.tableregions.proofs.region_row.Tie as tie
 
 abbrev Inv-loop : tie.InvT-loop
-Inv-loop text starts n r gate line end row₀ k₀ row k = (2 ≤ k) × (k ≤ end) × (Settled text (starts .at) n → gate < n → Gathered (dimensions text) (fields line) (numberOf (regions (gatesAt text (starts .at) n))) k row)
+Inv-loop text starts n r at line end row₀ k₀ row k = (2 ≤ k) × (k ≤ end) × Gathered (regionsAt text (starts .at) n) (fields line) k row
 
 abbrev μ-loop : tie.MeasureT-loop
-μ-loop text starts n r gate line end row₀ k₀ row k = end - k
+μ-loop text starts n r at line end row₀ k₀ row k = end - k
+
+returns : tie.Need-returns Inv-loop μ-loop
+unfolding rowOf
+returns c =
+    let entry = c .before .before .before in
+    let t = entry .args .text .now in
+    let s = entry .args .starts .at in
+    let none = no-region t s (entry .args .n) (entry .args .r) (c .before .locate .ensures) (c .if1 .taken) in
+    sym (ap (λ (x : Region). withNumbers (regionsAt t s (entry .args .n)) 0 (references x)) none)
 
 loop-holds : tie.Need-loop-holds Inv-loop μ-loop
-loop-holds c = (search needs, let e = c .reference-end .ensures .1 in omega arith, λ s h. gathered-none (dimensions (c .before .before .before .before .args .text .now)) (fields (c .before .line-at .result .now)) (numberOf (regions (gatesAt (c .before .before .before .before .args .text .now) (c .before .before .before .before .args .starts .at) (c .before .before .before .before .args .n)))))
+loop-holds c = (search needs, search needs, refl)
 
 loop-again : tie.Need-loop-again Inv-loop μ-loop
 loop-again c =
-    (search needs, search needs, λ s h. row-next (c .before .before .before .before .before .before .before .before .before .before .args .text .now) (c .before .before .before .before .before .before .before .before .before .before .args .starts .at) (c .before .before .before .before .before .before .before .before .before .before .args .n) s (c .before .before .before .before .before .before .before .before .locate .result .gate) h (c .before .before .before .before .before .before .before .line-at .ensures) (c .before .before .before .before .before .loop .k) (c .before .before .before .before .before .loop .row) (c .before .before .before .before .before .loop .inv .0) (c .before .before .before .before .before .before .reference-end .ensures .0) (search needs) (c .before .before .before .before .before .loop .inv .2 s h) (c .before .before .before .reference .ensures) (c .before .before .number-of .ensures) (c .before .has-reference .ensures) (c .settle .ensures))
+    let entry = c .before .before .before .before .before .before .before .before .before .before .before in
+    let line-at = c .before .before .before .before .before .before .before .line-at in
+    let head = c .before .before .before .before .before .loop in
+    let reference = c .before .before .before .reference in
+    let number-of = c .before .before .number-of in
+    let rs = regionsAt (entry .args .text .now) (entry .args .starts .at) (entry .args .n) in (
+      search needs,
+      search needs,
+      gathered-more rs (fields (line-at .result .now)) (head .k) (head .row) (head .inv .0) (head .inv .2) (reference .ensures) (number-of .ensures)
+          (c .before .has-reference .ensures) (c .settle .ensures),
+    )
 
-returns : tie.Need-returns Inv-loop μ-loop
-returns c =
-    λ s h. let w = c .before .before .before .before .locate .ensures h in
-    row-done (c .before .before .before .before .before .before .args .text .now) (c .before .before .before .before .before .before .args .starts .at) (c .before .before .before .before .before .before .args .n) s (c .before .before .before .before .locate .result .gate) (w .0) (c .before .before .before .line-at .ensures) (c .before .before .before .before .locate .result .quadrant) (w .1) (c .before .before .before .before .before .before .args .r) (w .2) (c .before .loop .k) (c .before .loop .row) (c .before .before .reference-end .ensures .0) (search needs) (c .before .loop .inv .2 s (w .0))
+returns-2 : tie.Need-returns-2 Inv-loop μ-loop
+returns-2 c =
+    let entry = c .before .before .before .before .before .before .before in
+    let locate = c .before .before .before .before .before .locate in
+    let if1 = c .before .before .before .before .if1 in
+    let line-at = c .before .before .before .line-at in
+    let reference-end = c .before .before .reference-end in
+    let head = c .before .loop in
+    let whole = c .loop-test .left in
+    let inside = head .inv .1 in
+    gathered-all (entry .args .text .now) (entry .args .starts .at) (entry .args .n) (entry .args .r) (locate .ensures) (if1 .left) (line-at .ensures)
+    (reference-end .ensures) (head .k) (head .row) (omega arith) (head .inv .2)
 
 pub region-row-spec : {M : Type 1} → statement M
-region-row-spec = tie.close (tie.spec Inv-loop μ-loop (λ c κs. search needs) (λ c κs. search needs) (λ c κs. search needs) loop-holds (λ c κs. search needs) (λ c κs. search needs) (λ c κs. search needs) (λ c κs. search needs) (λ c. search needs) (λ c. search needs) loop-again returns)
+region-row-spec =
+    tie.close
+    (tie.spec
+    Inv-loop
+    μ-loop
+    (λ c κs. search needs)
+    returns
+    (λ c κs. search needs)
+    (λ c κs. search needs)
+    loop-holds
+    (λ c κs. search needs)
+    (λ c κs. search needs)
+    (λ c κs. search needs)
+    (λ c κs. search needs)
+    (λ c. search needs)
+    (λ c. search needs)
+    loop-again
+    returns-2)

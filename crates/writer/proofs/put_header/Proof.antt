@@ -30,8 +30,7 @@ returns c =
         region-put .before .number-word .ensures,
         kind-put .put-word .ensures,
         toZ-pos w32 (a .kind) (omega arith),
-      )
-          (four-words _ _ _ _ _),
+      ) (four-words _ _ _ _ _),
     )
 
 pub put-header-spec : {M : Type 1} → statement M

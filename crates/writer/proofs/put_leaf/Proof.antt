@@ -1,5 +1,5 @@
 -- `put_leaf`: the first i words of the body are written over the beginning.
-use mathlib.Core.Path.{_≡_, refl, _∙_, ap}
+use mathlib.Core.Path.{_≡_, refl, sym, _∙_, ap}
 use Prim.Native.Nat.{_≤_, _-_}
 use native.Mathlib.Omega.{arith}
 use borrow.Author.Needs.{needs}
@@ -10,7 +10,7 @@ use Rattle.text.specs.Bounded.{tab}
 use Rattle.text.specs.Lines.{fields}
 use Rattle.text.specs.Output.{over}
 use Rattle.text.proofs.OutputLaws.{over-length}
-use Rattle.text.proofs.BoundedLaws.{tab-more}
+use Rattle.text.proofs.BoundedLaws.{length-tab, tab-more}
 use Rattle.gates.specs.Inner.Regions.{bodyLength, bodyWordOf}
 use Rattle.writer.proofs.put_leaf.Statement.{statement}
 use Rattle.writer.proofs.put_leaf.Tie as tie
@@ -39,7 +39,11 @@ same-length : tie.Need-same-length Inv-loop μ-loop
 same-length c = ap length (c .before .loop .inv .1) ∙ over-length _ _
 
 returns : tie.Need-returns Inv-loop μ-loop
-returns c = let l = c .before in let e : l .loop .i ≡ bodyLength (fields (l .before .before .before .before .args .line .now)) = omega arith in (e, rw (l .loop .inv .1, e))
+returns c =
+    let l = c .before in
+    let e : l .loop .i ≡ bodyLength (fields (l .before .before .before .before .args .line .now)) = omega arith in
+    let a = l .before .before .before .before .args in
+    (e ∙ sym (length-tab (bodyWordOf (drop 1 (fields (a .head .now))) (fields (a .line .now)) (a .q)) _), rw (l .loop .inv .1, e))
 
 pub put-leaf-spec : {M : Type 1} → statement M
 put-leaf-spec =
