@@ -6,7 +6,7 @@ ghost use lib.ListN.{length, drop};
 ghost use Rattle.text.specs.Lines.{fields};
 ghost use Rattle.gates.specs.Kinds.{dimensionOf};
 ghost use Rattle.gates.specs.Quads.{dividerCount, quadrantCount};
-ghost use Rattle.gates.specs.Meaning.{minWord, maxWord, ruleWord, lineWord, lowerEnd, upperEnd, quadrantMin, quadrantMax, quadrantWord};
+ghost use Rattle.gates.specs.Encoding.{minWord, maxWord, ruleWord, lineWord, lowerEnd, upperEnd, quadrantMin, quadrantMax, quadrantWord};
 use crate::tiling::divider_value;
 use crate::tiling::interval;
 use crate::tiling::representative;

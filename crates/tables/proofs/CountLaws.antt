@@ -20,6 +20,7 @@ use Rattle.counter.specs.Judging.{taken, members}
 use Rattle.counter.specs.Counting.{eventAt, takenAt, spoiltAt, memberAt, listFrom, inRegion, tallyOf, countPassed, countOf}
 use Rattle.text.proofs.TestLaws.{passed-or-failed}
 use Rattle.gates.specs.Gate.{Name, Event, Quadrant, Body, one, quad, Gate, Region, regionsOf, regions}
+use Rattle.gates.specs.Meaning.{holds}
 use Rattle.gates.proofs.GoodGate.{GoodShape, GoodBody, holders}
 use Rattle.tables.specs.Table.{_∈_, names, numberOf, sumOf}
 use Rattle.tables.specs.Rules.{Rules}
@@ -127,7 +128,7 @@ sum-counts f g l (suc m) h =
     ∙ sum-add (λ x. howMany (f x) m) (λ x. cond (f x m) 1 0) l
     ∙ ap₂ _+_ (sum-counts f g l m (λ j k. h j (omega arith))) (h m (omega arith)) ∙ sym (howMany-more g m)
 
-held : (qs : List Quadrant) (e : Event) → sumOf (λ (q : Quadrant). cond (q .box .holds e) 1 0) qs ≡ holders qs e
+held : (qs : List Quadrant) (e : Event) → sumOf (λ (q : Quadrant). cond (holds (q .box) e) 1 0) qs ≡ holders qs e
 held [] e = refl
 held (q ∷ qs) e = rw (held qs e)
 
@@ -163,13 +164,13 @@ module _ (t : List Gate) (ok : Rules t) (n : ℕ) (some-values : 1 ≤ n) (g : G
       parent-taken h none = h
       parent-taken h (some k) = refl
 
-      quadrant-value : taken e ≡ true → (q : Quadrant) → q ∈ qs → member t e (q .name) ≡ (q .box .holds e && inParent (member t e) (g .parent))
+      quadrant-value : taken e ≡ true → (q : Quadrant) → q ∈ qs → member t e (q .name) ≡ (holds (q .box) e && inParent (member t e) (g .parent))
       quadrant-value h q k = member-obeys t e ok h (quadrantRegion (g .parent) q) (quadrant-in q k)
 
       in-parent : taken e ≡ true → (b : Bool) → inParent (member t e) (g .parent) ≡ b → sumOf (λ (q : Quadrant). cond (member t e (q .name)) 1 0) qs ≡ cond b 1 0
       in-parent h true a =
-          sum-same _ (λ (q : Quadrant). cond (q .box .holds e) 1 0) qs (λ q k. rw (quadrant-value h q k, a, and-true (q .box .holds e))) ∙ held qs e ∙ good .2 e l h
-      in-parent h false a = sum-same _ (λ (q : Quadrant). 0) qs (λ q k. rw (quadrant-value h q k, a, and-none (q .box .holds e))) ∙ sum-none qs
+          sum-same _ (λ (q : Quadrant). cond (holds (q .box) e) 1 0) qs (λ q k. rw (quadrant-value h q k, a, and-true (holds (q .box) e))) ∙ held qs e ∙ good .2 e l h
+      in-parent h false a = sum-same _ (λ (q : Quadrant). 0) qs (λ q k. rw (quadrant-value h q k, a, and-none (holds (q .box) e))) ∙ sum-none qs
 
       go : (taken e ≡ true) ⊎ (taken e ≡ false) → sumOf (λ (q : Quadrant). cond (member t e (q .name)) 1 0) qs ≡ cond (inParentOf t (g .parent) e) 1 0
       go (inl h) = in-parent h (inParent (member t e) (g .parent)) refl ∙ ap (λ (b : Bool). cond b 1 0) (sym (parent-taken h (g .parent)))

@@ -8,6 +8,7 @@ use lib.ListN.{length}
 use Rattle.counter.specs.Judging.{taken}
 use Rattle.text.specs.Bytes.{same, every}
 use Rattle.gates.specs.Gate.{Name, Event, Operand, Shape, leaf, and-of, or-of, not-of, Gate, Region, regions}
+use Rattle.gates.specs.Meaning.{holds}
 use Rattle.tables.specs.Table.{_∈_, someOf}
 
 -- ---- an event that is taken, given of which names it is a member
@@ -18,7 +19,7 @@ module _ (m : Name → Bool) where
   inOperand o = cond (o .complement) (not (m (o .name))) (m (o .name))
 
   abbrev pub inShape : Event → Shape → Bool
-  inShape e (leaf l) = l .holds e
+  inShape e (leaf l) = holds l e
   inShape e (and-of os) = every inOperand os
   inShape e (or-of os) = someOf inOperand os
   inShape e (not-of o) = not (inOperand o)

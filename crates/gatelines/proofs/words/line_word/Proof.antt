@@ -1,7 +1,7 @@
 use mir.Syntax.{w32}
 use mir.ValLaws.{toZ-ofZ}
 use Rattle.text.specs.Lines.{fields}
-use Rattle.gates.specs.Meaning.{lineWord}
+use Rattle.gates.specs.Encoding.{lineWord}
 use Rattle.gates.proofs.AcceptedLaws.{rule-body}
 use Rattle.gatelines.proofs.LineLaws.{fields-length}
 use borrow.Author.Needs.{needs}
