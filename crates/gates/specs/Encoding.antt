@@ -2,19 +2,14 @@
 use mathlib.Core.Bool.{cond}
 use mathlib.Core.List.{List}
 use Prim.Native.Nat.{ℕ, _+_, _-_, _*_, _/_, _%_}
-use lib.Dec.{eqb}
+use lib.Dec.{eqb, ltb}
 use lib.IntN.{ℤ, pos, negsuc}
 use lib.ListN.{length}
 use Rattle.text.specs.Bounded.{tab}
 use Rattle.plans.specs.declared.Kind.{Kind}
 use Rattle.plans.specs.declared.Kind.the-variants.{Box, Polygon, Ellipse}
-use Rattle.gates.specs.declared.LineKind.{LineKind}
-use Rattle.gates.specs.declared.LineKind.the-variants.{Rect, Poly, Ellip}
-use Rattle.gates.specs.declared.Rule.{Rule}
-use Rattle.gates.specs.declared.Rule.the-variants.{Free, Name, Parent, Operand, Dimension, Coordinate, Entry, Distance, Min, Max, Value, Rising, Representative}
 use Rattle.gates.specs.Kinds.{fieldAt, isStar, dimensionOf, valueOf}
 use Rattle.gates.specs.Quads.{dividerCount, dividerField, valueCount, dividerValue, representative}
-use Rattle.gates.specs.Rules.{bodyRule}
 use Rattle.gates.specs.Tiling.{interval}
 use Rattle.gates.specs.Gate.{Leaf, rect, poly, ellip, quadrant}
 
@@ -25,25 +20,15 @@ minWord x = cond (isStar x) (negsuc 65535) (valueOf x)
 unfoldable pub maxWord : List ℕ → ℤ
 maxWord x = cond (isStar x) (pos 65536) (valueOf x)
 
--- the word of a field: the number of a dimension, a bound, a number
-abbrev pub ruleWord : List (List ℕ) → Rule → List ℕ → ℤ
-ruleWord head Free x = pos 0
-ruleWord head Name x = pos 0
-ruleWord head Parent x = pos 0
-ruleWord head Operand x = pos 0
-ruleWord head Dimension x = pos (dimensionOf head x)
-ruleWord head Coordinate x = valueOf x
-ruleWord head Entry x = valueOf x
-ruleWord head Distance x = valueOf x
-ruleWord head Min x = minWord x
-ruleWord head Max x = maxWord x
-ruleWord head Value x = valueOf x
-ruleWord head Rising x = valueOf x
-ruleWord head Representative x = valueOf x
+-- box: dimension, min, max per dimension
+unfoldable pub rectWord : List (List ℕ) → List (List ℕ) → ℕ → ℤ
+rectWord head fs i =
+    let x : List ℕ = fieldAt fs (3 + i) in
+    cond (eqb (i % 3) 0) (pos (dimensionOf head x)) (cond (eqb (i % 3) 1) (minWord x) (maxWord x))
 
--- the words of a box, a polygon, an ellipse: one for each field
-unfoldable pub lineWord : List (List ℕ) → LineKind → List (List ℕ) → ℕ → ℤ
-lineWord head kind fs i = ruleWord head (bodyRule kind fs i) (fieldAt fs (3 + i))
+-- polygon: two dimensions, vertices; ellipse: fields as in the table line
+unfoldable pub planeWord : List (List ℕ) → List (List ℕ) → ℕ → ℤ
+planeWord head fs i = cond (ltb i 2) (pos (dimensionOf head (fieldAt fs (3 + i)))) (valueOf (fieldAt fs (3 + i)))
 
 -- the ends of interval k of divider t
 unfoldable pub lowerEnd : List (List ℕ) → ℕ → ℕ → ℤ
@@ -74,7 +59,7 @@ leafKind (ellip head fs) = Ellipse
 leafKind (quadrant head fs q) = Box
 
 abbrev pub leafWords : Leaf → List ℤ
-leafWords (rect head fs) = tab (lineWord head Rect fs) (length fs - 3)
-leafWords (poly head fs) = tab (lineWord head Poly fs) (length fs - 3)
-leafWords (ellip head fs) = tab (lineWord head Ellip fs) (length fs - 3)
+leafWords (rect head fs) = tab (rectWord head fs) (length fs - 3)
+leafWords (poly head fs) = tab (planeWord head fs) (length fs - 3)
+leafWords (ellip head fs) = tab (planeWord head fs) (length fs - 3)
 leafWords (quadrant head fs q) = tab (quadrantWord head fs q) (3 * dividerCount fs)

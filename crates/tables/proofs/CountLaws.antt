@@ -23,7 +23,7 @@ use Rattle.gates.specs.Gate.{Name, Event, Quadrant, Body, one, quad, Gate, Regi
 use Rattle.gates.specs.Meaning.{holds}
 use Rattle.gates.proofs.GoodGate.{GoodShape, GoodBody, holders}
 use Rattle.tables.specs.Table.{_∈_, names, numberOf, sumOf}
-use Rattle.tables.specs.Rules.{Rules}
+use Rattle.tables.specs.Further.Rules.{Rules}
 use Rattle.tables.specs.Members.{inParent, member}
 use Rattle.tables.specs.Steps.{planWords}
 use Rattle.tables.proofs.ListLaws.{map-in, map-from}

@@ -8,8 +8,9 @@ use lib.ListN.{length}
 use lib.Dec.{ltb}
 use Rattle.plans.specs.Indices.{firstBad}
 use Rattle.plans.specs.Bits.{hasBit, withBit}
+use Rattle.plans.specs.Form.{kindNumber}
 use Rattle.plans.specs.declared.Kind.{Kind}
-use Rattle.plans.specs.declared.Kind.the-variants.{Box, Polygon, Ellipse, And, Or, Not, Unknown}
+use Rattle.plans.specs.declared.Kind.the-variants.{And, Or, Not}
 use Rattle.text.specs.Bytes.{every}
 use Rattle.gates.specs.Gate.{Name, Operand, Shape, leaf, and-of, or-of, not-of, Region}
 use Rattle.gates.specs.Encoding.{leafKind, leafWords}
@@ -41,15 +42,6 @@ unfoldable pub order : List Region → List ℕ
 order rs = orderFrom (length rs) rs 0
 
 -- ---- the words of a step: kind, region, parent, body length, body
-
-abbrev pub kindNumber : Kind → ℕ
-kindNumber Box = 1
-kindNumber Polygon = 2
-kindNumber Ellipse = 3
-kindNumber And = 4
-kindNumber Or = 5
-kindNumber Not = 6
-kindNumber Unknown = 0
 
 abbrev pub shapeKind : Shape → Kind
 shapeKind (leaf l) = leafKind l
