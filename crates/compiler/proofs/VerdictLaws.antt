@@ -10,7 +10,8 @@ use lib.ListN.{length, getD}
 use borrow.Author.Tests.{lt-ltb, le-ltb, eqb-true, ne-eqb}
 use Rattle.plans.specs.Indices.{firstBad}
 use Rattle.plans.specs.Refusals.{Verdict, passed, refused}
-use Rattle.text.specs.Numbers.{isNumber, numberValue, within}
+use Rattle.text.specs.Numbers.{isNumber, numberValue}
+use Rattle.integers.specs.Range.{inRange}
 use Rattle.text.specs.Names.{isName}
 use Rattle.text.specs.Lines.{endsInLF, fields}
 use Rattle.text.specs.Output.{over}
@@ -50,7 +51,7 @@ unless-named b k h = either b noRefusal k (omega arith) h
 
 number-named : (lo hi : ℤ) (x : List ℕ) → 4 ≤ numberRefusal lo hi x
 unfolding numberRefusal
-number-named lo hi x = either (isNumber x) (unless (within lo hi (numberValue x)) 8) 7 (unless-named (within lo hi (numberValue x)) 8 (omega arith)) (omega arith)
+number-named lo hi x = either (isNumber x) (unless (inRange lo hi (numberValue x)) 8) 7 (unless-named (inRange lo hi (numberValue x)) 8 (omega arith)) (omega arith)
 
 optional-named : (lo hi : ℤ) (x : List ℕ) → 4 ≤ optionalRefusal lo hi x
 unfolding optionalRefusal

@@ -11,7 +11,7 @@ use lib.ListN.{length}
 use Rattle.text.specs.Bounded.{tab}
 use Rattle.text.proofs.TestLaws.{true≢false, and-left, and-right}
 use Rattle.text.proofs.BoundedLaws.{length-tab, tab-ext}
-use Rattle.plans.specs.Form.{spans, spansBy}
+use Rattle.plans.specs.Form.{kindNumber, spans, spansBy}
 use Rattle.plans.proofs.IndexLaws.{first-to}
 use Rattle.gates.specs.declared.LineKind.{LineKind}
 use Rattle.gates.specs.declared.LineKind.the-variants.{Rect, Poly, Ellip, Quad, And, Or, Not, Unknown}
@@ -26,7 +26,7 @@ use Rattle.gates.proofs.AcceptedLaws.{Accepted}
 use Rattle.gates.proofs.QuadLaws.{count-small}
 use Rattle.gates.proofs.GateLaws.{map-tab, leaf-words, line-accepted}
 use Rattle.tables.specs.Table.{nthRegion, otherName, numberOf}
-use Rattle.tables.specs.Steps.{kindNumber, shapeKind, referenceWord, bodyWords, parentWord, stepWords}
+use Rattle.tables.specs.Steps.{shapeKind, referenceWord, bodyWords, parentWord, stepWords}
 use Rattle.writer.specs.Inner.Words.{numberWord, parentNumberWord, header, operandNumberWord, combines, operandAt}
 
 -- ---- numbers that are words as they are
