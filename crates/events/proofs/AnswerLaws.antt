@@ -1,18 +1,20 @@
 -- Laws of what `read_events` answers, from what the input's parts show.
 use mathlib.Core.Path.{_≡_, refl, sym, _∙_, ap}
 use mathlib.Core.Bool.{true, false}
-use mathlib.Core.List.{List, []}
+use mathlib.Core.List.{List, [], map}
 use Prim.Native.Nat.{ℕ, _+_, _≤_, _<_}
 use native.Mathlib.Omega.{arith}
 use lib.IntN.{ℤ}
-use lib.ListN.{length, drop}
+use lib.ListN.{length, drop, length-map}
 use borrow.Author.Tests.{lt-ltb, le-ltb, le-leb, lt-leb}
+use Rattle.text.specs.Numbers.{clamp}
 use Rattle.text.specs.Output.{over}
 use Rattle.text.proofs.OutputLaws.{over-length}
 use Rattle.events.specs.Parting.{tableLines, hasEvents, eventsEnded, eventPart}
-use Rattle.events.specs.Inner.Answers.{partedOf}
 use Rattle.events.specs.Listing.{list, ragged, badLine, values, eventsOf}
-use Rattle.events.specs.Inner.Answers.{listed, answerOf}
+use Rattle.events.specs.Inner.Answers.{partedOf, listed, answerOf, valuesKept}
+use Rattle.events.proofs.ListingLaws.{values-kept}
+use Rattle.events.proofs.BadLine.{none-bad}
 use Rattle.events.specs.declared.parting.Parted.{Parted}
 use Rattle.events.specs.declared.listing.Answer.{Answer}
 use Rattle.events.specs.declared.listing.Answer.the-variants.{Values, Ragged, Short}
@@ -78,15 +80,24 @@ module _ (n : ℕ) (s : List ℕ) (d : List ℤ) {o : Parted} (p : o ≡ partedO
       unfolding over
       answer-ragged l = rw (events-ragged n s (found-is ∙ f) (ended-is ∙ g) (omega (arith, bad-is)), line-is, bad-is) (refl, refl)
 
-      module _ (l : b ≤ 0) {m : ℕ} {x : List ℤ} (k : m ≡ length (values part)) (w : x ≡ over (values part) d) where
+      module _ (l : b ≤ 0) {m : ℕ} {x : List ℤ} (k : m ≡ length (valuesKept part)) (w : x ≡ over (valuesKept part) d) where
+        kept-are : valuesKept part ≡ map clamp (values part)
+        kept-are = values-kept n part (none-bad n part (omega (arith, i)) .0)
+
+        count-is : m ≡ length (values part)
+        count-is = k ∙ ap length kept-are ∙ length-map (values part) clamp
+
+        written-is : x ≡ over (map clamp (values part)) d
+        written-is = w ∙ ap (λ (v : List ℤ). over v d) kept-are
+
         listed-is : eventsOf n s ≡ list (values part)
         listed-is = events-listed n s (found-is ∙ f) (ended-is ∙ g) (omega (arith, bad-is)) ∙ rw (part-is, ← h)
 
         room-is : length d ≡ length x
-        room-is = sym (ap length w ∙ over-length (values part) d)
+        room-is = sym (ap length w ∙ over-length (valuesKept part) d)
 
         pub answer-short : length x < m → Answered n s d Short x
-        answer-short q = rw (listed-is, ← k, room-is, lt-leb m (length x) q) (refl, w)
+        answer-short q = rw (listed-is, ← count-is, room-is, lt-leb m (length x) q) (refl, written-is)
 
         pub answer-listed : m ≤ length x → Answered n s d (Values m) x
-        answer-listed q = rw (listed-is, ← k, room-is, le-leb m (length x) q) (refl, w)
+        answer-listed q = rw (listed-is, ← count-is, room-is, le-leb m (length x) q) (refl, written-is)

@@ -12,9 +12,12 @@ use lib.ListN.{length, getD, take, drop, take-append-drop, length-append, length
 use lib.Seq.{take-all, drop-drop}
 use borrow.Author.Tests.{ltb-true, ltb-false, lt-ltb, le-ltb, le-leb, eqb-true, not-true, not-false}
 use Rattle.text.specs.Bytes.{bytes, same, every, before}
-use Rattle.text.specs.Numbers.{isNegative, unsigned, isPositive, isNumber, numberValue, within, readNumber, kept}
-use Rattle.text.specs.Lines.{fields, unfields, lines, unlines, endsInLF, lineStarts}
-use Rattle.text.specs.Inner.Places.{findFrom, lineFrom}
+use Rattle.text.specs.Numbers.{isNegative, unsigned, isPositive, isNumber, numberValue}
+use Rattle.text.specs.Inner.Kept.{kept, readNumber}
+use Rattle.integers.specs.Range.{inRange}
+use Rattle.text.specs.Lines.{fields, lines, unlines, endsInLF}
+use Rattle.text.specs.Inner.Joining.{unfields}
+use Rattle.text.specs.Inner.Places.{lineStarts, findFrom, lineFrom}
 use Rattle.text.proofs.TestLaws.{true≢false, and-left, and-right, passed-or-failed, lt-or-ge}
 use Rattle.text.proofs.BytesLaws.{rest-cons, before-found, before-first, same-eq}
 use Rattle.text.proofs.LinesLaws.{lines-cut, line-length, fields-some, lineStarts-length, start-inside, lines-from-start, line-at-start}
@@ -24,7 +27,9 @@ use Rattle.events.specs.Parting.{tableLines, tableEnd, hasEvents, events
 use Rattle.events.specs.Listing.{Events, list, ragged, isEvent, eventLines, badLine, lineValues, values, eventsOf}
 use Rattle.events.specs.Inner.Answers.{answerOf}
 use Rattle.events.specs.declared.listing.Answer.the-variants.{Values, Short}
-use Rattle.events.proofs.ListingLaws.{isBad, lineValues-length}
+use Rattle.events.proofs.ListingLaws.{lineValues-length}
+use Rattle.events.proofs.PartingLaws.{end-at}
+use Rattle.events.proofs.BadLine.{none-bad}
 use Rattle.events.proofs.AnswerLaws.{events-none, events-open, events-ragged, events-listed}
 
 -- ── The input parted ──
@@ -32,8 +37,8 @@ use Rattle.events.proofs.AnswerLaws.{events-none, events-open, events-r
 -- without the line `events` all input is table
 module _ (s : List ℕ) (h : hasEvents s ≡ false) where
   end-is : tableEnd s ≡ length s
-  unfolding hasEvents tableEnd
-  end-is = List·getD-eq-default (lineStarts s) (length s) {n = tableLines s} (omega (arith, ltb-false (tableLines s) (length (lines s)) h, lineStarts-length s))
+  unfolding tableEnd
+  end-is = rw h
 
   pub table-all : tablePart s ≡ s
   unfolding tablePart
@@ -49,8 +54,7 @@ module _ (s : List ℕ) (h : hasEvents s ≡ true) where
   is-line = ltb-true (tableLines s) (length (lines s)) h
 
   begins : tableEnd s ≡ getD (lineStarts s) (tableLines s) 0
-  unfolding tableEnd
-  begins = default-free (lineStarts s) (tableLines s) (length s) (omega (arith, lineStarts-length s, is-line))
+  begins = end-at s ∙ default-free (lineStarts s) (tableLines s) (length s) (omega (arith, lineStarts-length s, is-line))
     where
       default-free : (l : List ℕ) (i d : ℕ) → i < length l → getD l i d ≡ getD l i 0
       default-free [] i d k = absurd (omega arith)
@@ -64,8 +68,7 @@ module _ (s : List ℕ) (h : hasEvents s ≡ true) where
   unfolding tableLines
   line-is =
       rw begins
-      (line-at-start s (tableLines s) is-line
-      ∙ sym (same-eq (bytes "events") (getD (lines s) (tableLines s) []) (before-found (same (bytes "events")) [] (lines s) is-line)))
+      (line-at-start s (tableLines s) is-line ∙ sym (same-eq (bytes "events") (getD (lines s) (tableLines s) []) (before-found (same (bytes "events")) [] (lines s) is-line)))
 
   lf-at : findFrom s (tableEnd s) 10 ≡ tableEnd s + 6
   lf-at = sym (line-length s (tableEnd s) inside) ∙ ap (λ (l : List ℕ). tableEnd s + length l) line-is
@@ -105,78 +108,6 @@ module _ (s : List ℕ) (h : hasEvents s ≡ true) where
       rw k at (sym (lines-cut s (tableEnd s) inside)) ∙ (rw (← begins) at (lines-from-start s (tableLines s) is-line)) in
       ap (drop 1) c ∙ drop-drop 1 (tableLines s) (lines s)
 
--- ── The lowest bad line ──
-
-module _ (n : ℕ) (s : List ℕ) where
-  bad-early : eventLines n s < length (lines s) → badLine n s ≡ eventLines n s + 1
-  unfolding badLine
-  bad-early h = rw (lt-ltb (eventLines n s) (length (lines s)) h)
-
-  bad-late : length (lines s) ≤ eventLines n s → badLine n s ≡ cond (endsInLF s) 0 (length (lines s))
-  unfolding badLine
-  bad-late h = rw (le-ltb (eventLines n s) (length (lines s)) h)
-
-  event-at : (k : ℕ) → k < eventLines n s → isEvent n (getD (lines s) k []) ≡ true
-  unfolding eventLines
-  event-at k h = not-false (isEvent n (getD (lines s) k [])) (before-first (isBad n) [] (lines s) k h)
-
-  no-event : eventLines n s < length (lines s) → isEvent n (getD (lines s) (eventLines n s) []) ≡ false
-  unfolding eventLines
-  no-event h = not-true (isEvent n (getD (lines s) (eventLines n s) [])) (before-found (isBad n) [] (lines s) h)
-
-  all-events : length (lines s) ≤ eventLines n s → every (isEvent n) (lines s) ≡ true
-  unfolding eventLines
-  all-events h = go (lines s) h
-    where
-      go : (ls : List (List ℕ)) → length ls ≤ before (isBad n) ls → every (isEvent n) ls ≡ true
-      go [] l = refl
-      go (x ∷ ls) l = both (passed-or-failed (isEvent n x)) (go ls)
-        where
-          both : (isEvent n x ≡ true) ⊎ (isEvent n x ≡ false) → (length ls ≤ before (isBad n) ls → every (isEvent n) ls ≡ true)
-              → every (isEvent n) (x ∷ ls) ≡ true
-          both (inl e) r = let k : suc (length ls) ≤ suc (before (isBad n) ls) = rw e at l in rw e (r (omega arith))
-          both (inr e) r = absurd (let k : suc (length ls) ≤ 0 = rw e at l in omega arith)
-
-  -- every line below it is an event
-  pub below-bad : (k : ℕ) → k + 1 < badLine n s → isEvent n (getD (lines s) k []) ≡ true
-  below-bad k h =
-      ⊎-elim
-      (λ (l : eventLines n s < length (lines s)). event-at k (omega (arith, bad-early l)))
-      (λ (l : length (lines s) ≤ eventLines n s). event-at k (late (endsInLF s) l (rw (bad-late l) at h)))
-      (lt-or-ge (eventLines n s) (length (lines s)))
-    where
-      late : (b : Bool) → length (lines s) ≤ eventLines n s → k + 1 < cond b 0 (length (lines s)) → k < eventLines n s
-      late true l q = omega arith
-      late false l q = omega arith
-
-  -- it is no event, or it is the last and without LF
-  pub bad-is : 0 < badLine n s → (isEvent n (getD (lines s) (badLine n s - 1) []) ≡ false) ⊎ ((badLine n s ≡ length (lines s)) × (endsInLF s ≡ false))
-  bad-is h =
-      ⊎-elim
-      (λ (l : eventLines n s < length (lines s)). let k : badLine n s - 1 ≡ eventLines n s = omega (arith, bad-early l) in inl (rw k (no-event l)))
-      (λ (l : length (lines s) ≤ eventLines n s). inr (late (passed-or-failed (endsInLF s)) l))
-      (lt-or-ge (eventLines n s) (length (lines s)))
-    where
-      late : (endsInLF s ≡ true) ⊎ (endsInLF s ≡ false) → length (lines s) ≤ eventLines n s → (badLine n s ≡ length (lines s)) × (endsInLF s ≡ false)
-      late (inl e) l = absurd (let z : badLine n s ≡ 0 = bad-late l ∙ rw e in omega arith)
-      late (inr e) l = (bad-late l ∙ rw e, e)
-
-  -- where there is none, every line is an event, and the last ends in LF
-  pub none-bad : badLine n s ≡ 0 → (every (isEvent n) (lines s) ≡ true) × ((lines s ≡ []) ⊎ (endsInLF s ≡ true))
-  none-bad e =
-      ⊎-elim
-      (λ (l : eventLines n s < length (lines s)). absurd (omega (arith, bad-early l)))
-      (λ (l : length (lines s) ≤ eventLines n s). (all-events l, late (passed-or-failed (endsInLF s)) l))
-      (lt-or-ge (eventLines n s) (length (lines s)))
-    where
-      no-lines : (ls : List (List ℕ)) → length ls ≡ 0 → ls ≡ []
-      no-lines [] k = refl
-      no-lines (x ∷ ls) k = absurd (omega arith)
-
-      late : (endsInLF s ≡ true) ⊎ (endsInLF s ≡ false) → length (lines s) ≤ eventLines n s → (lines s ≡ []) ⊎ (endsInLF s ≡ true)
-      late (inl f) l = inr f
-      late (inr f) l = inl (no-lines (lines s) (sym (bad-late l ∙ rw f) ∙ e))
-
 -- ── How many values ──
 
 -- a number has a digit
@@ -191,11 +122,7 @@ fields-bytes [] h e = absurd (omega arith)
 fields-bytes (f ∷ []) h e = omega (arith, number-some f (and-left (isNumber f) true e))
 fields-bytes (f ∷ (g ∷ fs)) h e =
     simp length-append
-    (omega (
-      arith,
-      number-some f (and-left (isNumber f) (every isNumber (g ∷ fs)) e),
-      fields-bytes (g ∷ fs) (omega arith) (and-right (isNumber f) (every isNumber (g ∷ fs)) e),
-    ))
+    (omega (arith, number-some f (and-left (isNumber f) (every isNumber (g ∷ fs)) e), fields-bytes (g ∷ fs) (omega arith) (and-right (isNumber f) (every isNumber (g ∷ fs)) e)))
 
 module _ (n : ℕ) (l : List ℕ) (e : isEvent n l ≡ true) where
   event-values : length (lineValues l) ≡ n
@@ -232,18 +159,12 @@ module _ (n : ℕ) (s : List ℕ) (vs : List ℤ) (e : eventsOf n s ≡ list vs)
   unfolding badLine eventLines values flatMap lines endsInLF
   listed-are = go (passed-or-failed (hasEvents s)) (passed-or-failed (eventsEnded s)) (lt-or-ge 0 (badLine n (eventPart s)))
     where
-      go : (hasEvents s ≡ true) ⊎ (hasEvents s ≡ false) → (eventsEnded s ≡ true) ⊎ (eventsEnded s ≡ false)
-          → (0 < badLine n (eventPart s)) ⊎ (badLine n (eventPart s) ≤ 0)
+      go : (hasEvents s ≡ true) ⊎ (hasEvents s ≡ false) → (eventsEnded s ≡ true) ⊎ (eventsEnded s ≡ false) → (0 < badLine n (eventPart s)) ⊎ (badLine n (eventPart s) ≤ 0)
           → (badLine n (eventPart s) ≡ 0) × (vs ≡ values (eventPart s))
-      go (inr h) g l =
-          let q : list [] ≡ list vs = sym (events-none n s h) ∙ e in
-          let v : vs ≡ [] = cc in
-          rw (events-no-part s h, v) (refl, refl)
+      go (inr h) g l = let q : list [] ≡ list vs = sym (events-none n s h) ∙ e in let v : vs ≡ [] = cc in rw (events-no-part s h, v) (refl, refl)
       go (inl h) (inr g) l = absurd (let q : ragged (tableLines s + 1) ≡ list vs = sym (events-open n s h g) ∙ e in let z : _≡_ {A = ℕ} 0 1 = cc in omega arith)
       go (inl h) (inl g) (inl l) =
-          absurd (let q : ragged (tableLines s + 1 + badLine n (eventPart s)) ≡ list vs = sym (events-ragged n s h g l) ∙ e in
-          let z : _≡_ {A = ℕ} 0 1 = cc in
-          omega arith)
+          absurd (let q : ragged (tableLines s + 1 + badLine n (eventPart s)) ≡ list vs = sym (events-ragged n s h g l) ∙ e in let z : _≡_ {A = ℕ} 0 1 = cc in omega arith)
       go (inl h) (inl g) (inr l) = let q : list (values (eventPart s)) ≡ list vs = sym (events-listed n s h g l) ∙ e in (omega arith, cc)
 
   -- the list is complete: n values for each line of events
@@ -279,9 +200,9 @@ never-short n s room h e = go (eventsOf n s) refl e
 
 module _ (f : List ℕ) (h : isNumber f ≡ true) where
   -- the value kept is on the scale of an event's values exactly where the number is
-  pub kept-on-scale : within (negsuc 65535) (pos 65535) (kept (readNumber f)) ≡ within (negsuc 65535) (pos 65535) (numberValue f)
+  pub kept-on-scale : inRange (negsuc 65535) (pos 65535) (kept (readNumber f)) ≡ inRange (negsuc 65535) (pos 65535) (numberValue f)
   kept-on-scale = rw (read-value f h) (within-event (numberValue f))
 
   -- and is then the number
-  pub kept-is : within (negsuc 65535) (pos 65535) (numberValue f) ≡ true → kept (readNumber f) ≡ numberValue f
+  pub kept-is : inRange (negsuc 65535) (pos 65535) (numberValue f) ≡ true → kept (readNumber f) ≡ numberValue f
   kept-is w = rw (read-value f h) (clamp-within (negsuc 65535) (pos 65535) (numberValue f) (omega arith) (omega arith) w)

@@ -2,6 +2,7 @@
 pub mod SearchLaws
 pub mod PartingLaws
 pub mod ListingLaws
+pub mod BadLine
 pub mod AnswerLaws
 pub mod PrintingLaws
 pub mod EventTheorems

@@ -6,8 +6,8 @@ use Prim.Native.Nat.{ℕ, suc, _+_, _≤_, _<_}
 use native.Mathlib.Omega.{arith}
 use lib.ListN.{length, getD, drop}
 use Rattle.text.specs.Bytes.{before}
-use Rattle.text.specs.Lines.{lines, startsFrom, lineStarts}
-use Rattle.text.specs.Inner.Places.{findFrom, lineFrom}
+use Rattle.text.specs.Lines.{lines}
+use Rattle.text.specs.Inner.Places.{startsFrom, lineStarts, findFrom, lineFrom}
 use Rattle.text.proofs.LinesLaws.{find-from, find-inside, lines-cut, lines-end, starts-cut}
 
 -- the place of the first line of which f holds, of those from place a on; or the end

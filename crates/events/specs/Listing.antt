@@ -7,11 +7,9 @@ use lib.Dec.{leb, ltb, eqb}
 use lib.IntN.{ℤ, pos}
 use lib.ListN.{length}
 use Rattle.text.specs.Bytes.{before, every}
-use Rattle.text.specs.Numbers.{isNumber, readNumber, kept}
+use Rattle.text.specs.Numbers.{isNumber, numberValue}
 use Rattle.text.specs.Lines.{fields, lines, endsInLF}
 use Rattle.events.specs.Parting.{tableLines, hasEvents, eventsEnded, eventPart}
-use Rattle.events.specs.declared.listing.Answer.{Answer}
-use Rattle.events.specs.declared.listing.Answer.the-variants.{Values, Ragged, Short}
 
 -- ── Lines ──
 
@@ -31,10 +29,9 @@ badLine n part =
 
 -- ── Values ──
 
--- the values of a line, as they are kept: a number beyond ±2^30 is kept as ±2^30, which is off the scale of an event's values as the
--- number is (the law `within-event` of text), so that a number beyond 32 bits spoils its event; a field of an event is never Bad
+-- the values of a line
 unfoldable pub lineValues : List ℕ → List ℤ
-lineValues line = map (λ f. kept (readNumber f)) (fields line)
+lineValues line = map numberValue (fields line)
 
 -- the flat list of the values of all lines
 unfoldable pub values : List ℕ → List ℤ

@@ -1,13 +1,11 @@
 -- The input parted (01: "a table, the line `events`, then events"; "without the line `events` all input is table and no event follows").
 use Prim.Native.Nat.{ℕ, _+_}
-use mathlib.Core.Bool.{Bool}
+use mathlib.Core.Bool.{Bool, cond}
 use mathlib.Core.List.{List}
 use lib.Dec.{ltb, eqb}
 use lib.ListN.{length, getD, take, drop}
 use Rattle.text.specs.Bytes.{bytes, same, before}
-use Rattle.text.specs.Lines.{lines, lineStarts}
-use Rattle.events.specs.declared.parting.Parted.{Parted}
-use Rattle.events.specs.declared.parting.Opening.{Opening}
+use Rattle.text.specs.Lines.{lines, unlines}
 
 -- how many lines stand before the first that is exactly `events`: all, where there is none
 unfoldable pub tableLines : List ℕ → ℕ
@@ -17,9 +15,9 @@ tableLines input = before (same (bytes "events")) (lines input)
 unfoldable pub hasEvents : List ℕ → Bool
 hasEvents input = ltb (tableLines input) (length (lines input))
 
--- the place where it begins, or the end of the input
+-- the place where it begins, behind the bytes of the lines before it; or the end of the input
 unfoldable pub tableEnd : List ℕ → ℕ
-tableEnd input = getD (lineStarts input) (tableLines input) (length input)
+tableEnd input = cond (hasEvents input) (length (unlines (take (tableLines input) (lines input)))) (length input)
 
 -- table: the bytes before the line `events`, or all input
 unfoldable pub tablePart : List ℕ → List ℕ

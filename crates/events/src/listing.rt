@@ -4,9 +4,9 @@ ghost use Prim.Native.Nat.{_+_, _≤_};
 ghost use lib.ListN.{length, set, drop};
 ghost use Rattle.text.specs.Output.{over, Writes};
 ghost use Rattle.text.specs.Inner.Writing.{WritesFrom};
-ghost use Rattle.text.specs.Numbers.{kept};
-ghost use Rattle.events.specs.Listing.{isEvent, badLine, lineValues, values, eventsOf};
-ghost use Rattle.events.specs.Inner.Answers.{answerOf, listed};
+ghost use Rattle.text.specs.Inner.Kept.{kept};
+ghost use Rattle.events.specs.Listing.{isEvent, badLine, eventsOf};
+ghost use Rattle.events.specs.Inner.Answers.{answerOf, listed, lineKept, valuesKept};
 use crate::parting::split;
 use text::lines::ends_in_lf;
 use text::lines::field;
@@ -74,9 +74,9 @@ fn put_value(values: &mut [i32], i: usize, number: Number)
     }
 }
 
-// Writes the values of a line over the beginning of rest, as far as it goes, and answers how many there are.
+// Writes the values kept of a line over the beginning of rest, as far as it goes, and answers how many there are.
 fn put_line(rest: &mut [i32], line: &[u8]) -> usize
-    ensures { λ r. ⌜ Writes (lineValues (now (line .entry))) (now (rest .entry)) (now (rest .exit)) r ⌝ }
+    ensures { λ r. ⌜ Writes (lineKept (now (line .entry))) (now (rest .entry)) (now (rest .exit)) r ⌝ }
 {
     let n = field_count(line);
     let mut k = 0;
@@ -89,15 +89,15 @@ fn put_line(rest: &mut [i32], line: &[u8]) -> usize
 
 // The same from index a on.
 fn put_line_from(values: &mut [i32], a: usize, line: &[u8]) -> usize
-    ensures { λ r. ⌜ WritesFrom a (lineValues (now (line .entry))) (now (values .entry)) (now (values .exit)) r ⌝ }
+    ensures { λ r. ⌜ WritesFrom a (lineKept (now (line .entry))) (now (values .entry)) (now (values .exit)) r ⌝ }
 {
     let b = lesser(a, values.len());
     put_line(&mut values[b..], line)
 }
 
-// Writes the values of all lines over the beginning of list, as far as it goes, and answers how many there are.
+// Writes the values kept of all lines over the beginning of list, as far as it goes, and answers how many there are.
 fn put_lines(list: &mut [i32], part: &[u8]) -> usize
-    ensures { λ r. ⌜ Writes (values (now (part .entry))) (now (list .entry)) (now (list .exit)) r ⌝ }
+    ensures { λ r. ⌜ Writes (valuesKept (now (part .entry))) (now (list .entry)) (now (list .exit)) r ⌝ }
 {
     let mut at = 0;
     let mut m: usize = 0;

@@ -4,8 +4,10 @@ ghost use mathlib.Core.Bool.{cond};
 ghost use Prim.Native.Nat.{_-_};
 ghost use lib.ListN.{length, drop};
 ghost use Rattle.text.specs.Lines.{fields};
-ghost use Rattle.gates.specs.Kinds.{kindNamed, lineKind, isUnknown, isQuad, isStar, isNone, isParent, isComplement, operandName, isOperand, dimensionOf, valueOf};
+ghost use Rattle.gates.specs.Kinds.{kindNamed, lineKind, stepKind, isUnknown, isQuad, isStar, isNone, isParent, isComplement, operandName, isOperand, dimensionOf, valueOf};
 use gates::LineKind;
+use plans::Kind;
+use plans::form::is_known;
 use text::lines::field;
 use text::lines::field_count;
 use text::lines::find_field;
@@ -60,19 +62,26 @@ pub fn kind_of(line: &[u8]) -> LineKind
     kind_named(field(line, 0))
 }
 
+// The kind of the steps that a line makes.
+pub fn step_kind(kind: LineKind) -> Kind
+    ensures { λ r. ⌜ r ≡ stepKind kind ⌝ }
+{
+    match kind {
+        LineKind::Rect => Kind::Box,
+        LineKind::Poly => Kind::Polygon,
+        LineKind::Ellip => Kind::Ellipse,
+        LineKind::Quad => Kind::Box,
+        LineKind::And => Kind::And,
+        LineKind::Or => Kind::Or,
+        LineKind::Not => Kind::Not,
+        LineKind::Unknown => Kind::Unknown,
+    }
+}
+
 pub fn is_unknown(kind: LineKind) -> bool
     ensures { λ r. ⌜ r ≡ isUnknown kind ⌝ }
 {
-    match kind {
-        LineKind::Rect => false,
-        LineKind::Poly => false,
-        LineKind::Ellip => false,
-        LineKind::Quad => false,
-        LineKind::And => false,
-        LineKind::Or => false,
-        LineKind::Not => false,
-        LineKind::Unknown => true,
-    }
+    !is_known(step_kind(kind))
 }
 
 pub fn is_quad(kind: LineKind) -> bool

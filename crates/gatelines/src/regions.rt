@@ -11,10 +11,11 @@ use gatefields::fields::is_quad;
 use gatefields::fields::kind_of;
 use gatefields::fields::minus;
 use gatefields::fields::name_count;
+use gatefields::fields::step_kind;
 use gatefields::quads::divider_count;
 use gatefields::quads::quadrant_at;
 use gatefields::quads::quadrant_count;
-use gates::LineKind;
+use plans::form::kind_number;
 use text::lines::field;
 use text::lines::field_count;
 
@@ -65,26 +66,11 @@ pub fn operand_field(line: &[u8], j: usize) -> &[u8]
     field(line, 3 + j)
 }
 
-fn number_of(kind: LineKind) -> u8
-    ensures { λ r. ⌜ r ≡ stepNumber kind ⌝ }
-{
-    match kind {
-        LineKind::Rect => 1,
-        LineKind::Poly => 2,
-        LineKind::Ellip => 3,
-        LineKind::Quad => 1,
-        LineKind::And => 4,
-        LineKind::Or => 5,
-        LineKind::Not => 6,
-        LineKind::Unknown => 0,
-    }
-}
-
 // The number of the kind of each region's step.
 pub fn step_number(line: &[u8]) -> u8
     ensures { λ r. ⌜ r ≡ stepNumber (lineKind (fields (now (line .entry)))) ⌝ }
 {
-    number_of(kind_of(line))
+    kind_number(step_kind(kind_of(line)))
 }
 
 // How many words the body of each region has.

@@ -6,7 +6,8 @@ ghost use lib.ListN.{length, drop};
 ghost use Rattle.text.specs.Lines.{fields};
 ghost use Rattle.gates.specs.Kinds.{dimensionOf};
 ghost use Rattle.gates.specs.Quads.{dividerCount, quadrantCount};
-ghost use Rattle.gates.specs.Meaning.{minWord, maxWord, ruleWord, lineWord, lowerEnd, upperEnd, quadrantMin, quadrantMax, quadrantWord};
+ghost use Rattle.gates.specs.Encoding.{minWord, maxWord, rectWord, planeWord, lowerEnd, upperEnd, quadrantMin, quadrantMax, quadrantWord};
+ghost use Rattle.gates.specs.Inner.Regions.{lineWord};
 use crate::tiling::divider_value;
 use crate::tiling::interval;
 use crate::tiling::representative;
@@ -15,9 +16,7 @@ use gatefields::fields::is_star;
 use gatefields::fields::value_of;
 use gatefields::quads::divider_at;
 use gatefields::quads::value_count;
-use gaterules::rule_of;
 use gates::LineKind;
-use gates::Rule;
 use text::lines::field;
 
 fn dimension_word(head: &[u8], x: &[u8]) -> i32
@@ -45,25 +44,29 @@ fn max_word(x: &[u8]) -> i32
     value_of(x)
 }
 
-fn rule_word(head: &[u8], rule: Rule, x: &[u8]) -> i32
-    requires { ⌜ length (drop 1 (fields (now head))) ≤ 8 ⌝ }
-    ensures { λ r. ⌜ r ≡ ruleWord (drop 1 (fields (now (head .entry)))) rule (now (x .entry)) ⌝ }
+fn rect_word(head: &[u8], line: &[u8], i: usize) -> i32
+    requires { ⌜ (length (drop 1 (fields (now head))) ≤ 8) × (i < length (fields (now line)) - 3) ⌝ }
+    ensures { λ r. ⌜ r ≡ rectWord (drop 1 (fields (now (head .entry)))) (fields (now (line .entry))) i ⌝ }
 {
-    match rule {
-        Rule::Free => 0,
-        Rule::Name => 0,
-        Rule::Parent => 0,
-        Rule::Operand => 0,
-        Rule::Dimension => dimension_word(head, x),
-        Rule::Coordinate => value_of(x),
-        Rule::Entry => value_of(x),
-        Rule::Distance => value_of(x),
-        Rule::Min => min_word(x),
-        Rule::Max => max_word(x),
-        Rule::Value => value_of(x),
-        Rule::Rising => value_of(x),
-        Rule::Representative => value_of(x),
+    let x = field(line, 3 + i);
+    if i % 3 == 0 {
+        return dimension_word(head, x);
     }
+    if i % 3 == 1 {
+        return min_word(x);
+    }
+    max_word(x)
+}
+
+fn plane_word(head: &[u8], line: &[u8], i: usize) -> i32
+    requires { ⌜ (length (drop 1 (fields (now head))) ≤ 8) × (i < length (fields (now line)) - 3) ⌝ }
+    ensures { λ r. ⌜ r ≡ planeWord (drop 1 (fields (now (head .entry)))) (fields (now (line .entry))) i ⌝ }
+{
+    let x = field(line, 3 + i);
+    if i < 2 {
+        return dimension_word(head, x);
+    }
+    value_of(x)
 }
 
 // Word i of the body of a rect, poly or ellip line.
@@ -71,7 +74,16 @@ pub fn line_word(head: &[u8], kind: LineKind, line: &[u8], i: usize) -> i32
     requires { ⌜ (length (drop 1 (fields (now head))) ≤ 8) × (i < length (fields (now line)) - 3) ⌝ }
     ensures { λ r. ⌜ r ≡ lineWord (drop 1 (fields (now (head .entry)))) kind (fields (now (line .entry))) i ⌝ }
 {
-    rule_word(head, rule_of(kind, line, 3 + i), field(line, 3 + i))
+    match kind {
+        LineKind::Rect => rect_word(head, line, i),
+        LineKind::Poly => plane_word(head, line, i),
+        LineKind::Ellip => plane_word(head, line, i),
+        LineKind::Quad => 0,
+        LineKind::And => 0,
+        LineKind::Or => 0,
+        LineKind::Not => 0,
+        LineKind::Unknown => 0,
+    }
 }
 
 fn lower_end(line: &[u8], t: usize, k: usize) -> i32

@@ -1,12 +1,14 @@
 -- Laws of the rules, as the code applies them.
 use mathlib.Core.Path.{_≡_, sym, ap, _∙_}
-use mathlib.Core.Bool.{Bool, true, false, cond}
+use mathlib.Core.Bool.{Bool, true, false, cond, _&&_}
 use mathlib.Core.List.{List}
 use Prim.Native.Nat.{ℕ, zero, suc, _+_, _-_, _≤_}
 use native.Mathlib.Omega.{arith}
 use lib.IntN.{ℤ}
+use lib.Signed.{leZ}
 use Rattle.text.specs.Bounded.{last}
-use Rattle.text.specs.Numbers.{within, readNumber}
+use Rattle.text.specs.Inner.Kept.{readNumber}
+use Rattle.integers.specs.Range.{inRange}
 use Rattle.text.specs.declared.numbers.Number.the-variants.{Bad, Value}
 use Rattle.text.proofs.NumbersLaws.{within-clamp, bad-read, value-read}
 use Rattle.gates.specs.declared.LineKind.{LineKind}
@@ -28,8 +30,8 @@ pub number-bad : (lo hi : ℤ) (x : List ℕ) → readNumber x ≡ Bad → 7 ≡
 unfolding numberRefusal
 number-bad lo hi x e = rw (bad-read x e)
 
-pub number-value : (lo hi v : ℤ) (x : List ℕ) → Bound lo → Bound hi → readNumber x ≡ Value v → unless (within lo hi v) 8 ≡ numberRefusal lo hi x
-unfolding numberRefusal
+pub number-value : (lo hi v : ℤ) (x : List ℕ) → Bound lo → Bound hi → readNumber x ≡ Value v → unless (leZ lo v && leZ v hi) 8 ≡ numberRefusal lo hi x
+unfolding numberRefusal inRange
 number-value lo hi v x g h e =
     let w = value-read x v e in
     rw (w .0, w .1) (ap (λ (b : Bool). unless b 8) (within-clamp lo hi _ g h))

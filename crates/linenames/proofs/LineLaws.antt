@@ -27,7 +27,7 @@ use Rattle.gates.specs.declared.LineKind.{LineKind}
 use Rattle.gates.specs.declared.LineKind.the-variants.{Rect, Poly, Ellip, Quad, And, Or, Not, Unknown}
 use Rattle.gates.proofs.GateLaws.{map-tab, region-count, region-at}
 use Rattle.tables.specs.Table.{_∈_, someOf, noRegion, quadrantNames, ownNames, different, names, parentNames, bodyReferences, gateReferences}
-use Rattle.tables.specs.Rules.{Distinct}
+use Rattle.tables.specs.Further.Rules.{Distinct}
 use Rattle.tables.specs.Reaching.{isIn, refersTo}
 use Rattle.tables.proofs.ListLaws.{some-at, some-found, not-not}
 use Rattle.tables.proofs.NameLaws.{same-not, distinct-at, at-distinct, different-distinct, distinct-different}

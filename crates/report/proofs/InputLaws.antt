@@ -1,12 +1,13 @@
 -- The input of a report: its table, how many values an event has, and the values that are counted.
-use mathlib.Core.Path.{_≡_, refl, ap, _∙_}
+use mathlib.Core.Path.{_≡_, refl, sym, ap, _∙_}
 use mathlib.Core.List.{List}
 use Prim.Native.Nat.{ℕ, _<_, _≤_}
 use native.Mathlib.Omega.{arith}
 use lib.IntN.{ℤ}
-use lib.ListN.{length, take, drop}
+use lib.ListN.{length, take, drop, length-map}
 use lib.Seq.{take-append-seam}
 use borrow.Author.Tests.{lt-ltb, le-ltb, le-leb}
+use Rattle.text.specs.Numbers.{clamp}
 use Rattle.text.specs.Output.{over}
 use Rattle.text.proofs.OutputLaws.{over-fits}
 use Rattle.counter.specs.declared.Counted.{Counted}
@@ -52,11 +53,11 @@ module _ (n : ℕ) (input : List ℕ) (h : length input ≤ 65536) where
   listed-few = go (eventsOf n input) refl
     where
       go : (es : Events) → eventsOf n input ≡ es → length (listed es) ≤ 32768
-      go (list vs) e = omega (arith, values-few n input vs e)
+      go (list vs) e = omega (arith, values-few n input vs e, length-map vs clamp)
       go (ragged line) e = omega arith
 
 count-listed : (es : Events) (room : ℕ) → length (listed es) ≤ room → readCount (answerOf es room) ≡ length (listed es)
-count-listed (list vs) room h = rw (le-leb (length vs) room h)
+count-listed (list vs) room h = let l = length-map vs clamp in rw (le-leb (length vs) room (omega arith)) (sym l)
 count-listed (ragged line) room h = refl
 
 -- k values are read over the beginning of a list of 32,768, which became x

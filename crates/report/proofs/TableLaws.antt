@@ -2,16 +2,21 @@
 use mathlib.Core.Path.{_≡_, refl, sym, ap, _∙_}
 use mathlib.Core.Bool.{Bool, true, false, cond}
 use mathlib.Core.Logic.{_⊎_, inl, inr}
-use mathlib.Core.List.{List}
+use mathlib.Core.List.{List, map}
 use Prim.Native.Nat.{ℕ}
+use native.Mathlib.Omega.{arith}
 use lib.Dec.{eqb, leb}
-use lib.IntN.{ℤ}
+use lib.IntN.{ℤ, pos, negsuc}
 use lib.ListN.{length}
 use borrow.Author.Tests.{eqb-true}
+use Rattle.plans.specs.Words.{onScale}
 use Rattle.plans.specs.Refusals.{Verdict, passed}
+use Rattle.text.specs.Numbers.{clamp}
+use Rattle.text.proofs.NumbersLaws.{within-event, clamp-within}
 use Rattle.text.proofs.TestLaws.{true≢false, passed-or-failed}
 use Rattle.counter.specs.declared.Counted.{Counted}
 use Rattle.counter.specs.Counting.{Counting, counting, countOf}
+use Rattle.counter.proofs.KeptLaws.{count-kept}
 use Rattle.gates.specs.Gate.{regions}
 use Rattle.tables.specs.Head.{gates}
 use Rattle.tables.specs.Refusals.{tableVerdict}
@@ -73,6 +78,11 @@ module _ (text : List ℕ) (slice after : List ℤ) (room : length slice ≡ 409
 
 -- ---- what is printed
 
+-- counting the values as they are kept is counting the values
+count-clamped : (p values : List ℤ) → countOf p (map clamp values) ≡ countOf p values
+unfolding onScale
+count-clamped = count-kept clamp within-event (λ v w. clamp-within (negsuc 65535) (pos 65535) v (omega arith) (omega arith) w)
+
 module _ (table : List ℕ) (es : Events) (room : ℕ) (c : Counted) where
   pub answers-printed : (tableVerdict 4096 table .number ≡ 0 → counting c ≡ countOf (planOf table) (listed es))
       → unlessRefused (tableVerdict 4096 table) (answeredLines (answerOf es room) (countedLines (regions (gates table)) (counting c))) ≡ printed table es
@@ -82,7 +92,9 @@ module _ (table : List ℕ) (es : Events) (room : ℕ) (c : Counted) where
       lines-are : (x : Events) → counting c ≡ countOf (planOf table) (listed x)
           → answeredLines (answerOf x room) (countedLines (regions (gates table)) (counting c)) ≡ eventsLines table x
       lines-are (ragged line) q = refl
-      lines-are (list vs) q = ap (λ (x : Counting). answeredLines (answerOf (list vs) room) (countedLines (regions (gates table)) x)) q ∙ either (leb (length vs) room)
+      lines-are (list vs) q =
+          ap (λ (x : Counting). answeredLines (answerOf (list vs) room) (countedLines (regions (gates table)) x)) (q ∙ count-clamped (planOf table) vs)
+          ∙ either (leb (length vs) room)
         where
           either : (b : Bool) → answeredLines (cond b (Values (length vs)) Short) (countedLines (regions (gates table)) (countOf (planOf table) vs)) ≡ countedLines (regions (gates table)) (countOf (planOf table) vs)
           either true = refl

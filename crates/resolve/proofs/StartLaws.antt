@@ -6,7 +6,8 @@ use native.Mathlib.Omega.{arith}
 use lib.ListN.{length, getD, replicate, length-drop}
 use lib.Seq.{getD-drop, ext-getD}
 use Rattle.text.specs.Bounded.{tab}
-use Rattle.text.specs.Lines.{lines, lineStarts}
+use Rattle.text.specs.Lines.{lines}
+use Rattle.text.specs.Inner.Places.{lineStarts}
 use Rattle.text.specs.Output.{over}
 use Rattle.text.proofs.BoundedLaws.{length-tab, getD-tab}
 use Rattle.text.proofs.LinesLaws.{lineStarts-length, line-at-start}

@@ -4,7 +4,7 @@ ghost use mathlib.Core.Bool.{cond};
 ghost use Prim.Native.Nat.{_+_, min};
 ghost use lib.ListN.{length, getD, replicate};
 ghost use Rattle.plans.specs.Bits.{withBit};
-ghost use Rattle.text.specs.Lines.{lineStarts};
+ghost use Rattle.text.specs.Inner.Places.{lineStarts};
 ghost use Rattle.text.specs.Output.{Writes};
 ghost use Rattle.tables.specs.Table.{numberOf};
 ghost use Rattle.resolve.specs.Inner.Reading.{startsOf, lineAt, regionsAt};

@@ -10,7 +10,8 @@ use lib.Dec.{ltb}
 use lib.IntN.{ℤ}
 use lib.ListN.{length}
 use Rattle.text.specs.Bounded.{least}
-use Rattle.text.specs.Numbers.{isNumber, numberValue, within}
+use Rattle.text.specs.Numbers.{isNumber, numberValue}
+use Rattle.integers.specs.Range.{inRange}
 use Rattle.text.specs.Names.{isName}
 use Rattle.gates.specs.declared.LineKind.{LineKind}
 use Rattle.gates.specs.declared.Rule.{Rule}
@@ -48,7 +49,7 @@ unless-listed b k h l = either b none (of k h l)
 
 number-listed : (lo hi : ℤ) (x : List ℕ) → Listed (numberRefusal lo hi x)
 unfolding numberRefusal
-number-listed lo hi x = either (isNumber x) (unless-listed (within lo hi (numberValue x)) 8 (omega arith) (omega arith)) (of 7 (omega arith) (omega arith))
+number-listed lo hi x = either (isNumber x) (unless-listed (inRange lo hi (numberValue x)) 8 (omega arith) (omega arith)) (of 7 (omega arith) (omega arith))
 
 optional-listed : (lo hi : ℤ) (x : List ℕ) → Listed (optionalRefusal lo hi x)
 unfolding optionalRefusal

@@ -18,7 +18,7 @@ use Rattle.gates.specs.Refusal.{lineRefusal}
 use Rattle.gates.specs.Gate.{Gate, regions}
 use Rattle.tables.specs.Table.{_∈_}
 use Rattle.tables.specs.Head.{dimensions, headGood, gateLines, gates}
-use Rattle.tables.specs.Rules.{Rules}
+use Rattle.tables.specs.Further.Rules.{Rules}
 use Rattle.tables.specs.Steps.{planWords}
 use Rattle.tables.specs.Refusals.{unlessLine, refusalAt, lineGood, uncrowded, unrepeated, living, uncircled, always, sizeVerdict, gatesVerdict, tableVerdict}
 use Rattle.tables.specs.Compile.{planOf}

@@ -9,9 +9,10 @@ use Prim.Native.Nat.{ℕ, _+_}
 use lib.ListN.{length}
 use Rattle.gates.specs.Gate.{Name, Event, leaf, Quadrant, Body, one, quad, Gate, Region, regionsOf, gateRegions, regions}
 use Rattle.tables.specs.Table.{_∈_, names, given, ownNames, quadrantNames, parentNames, operandNames, bodyReferences, references, sumOf}
-use Rattle.tables.specs.Reaching.{isIn, refersTo, Refers, Reaches, refers, refers-on}
-use Rattle.tables.specs.Rules.{Distinct, Rules}
-use Rattle.tables.specs.Members.{Obeys}
+use Rattle.tables.specs.Reaching.{isIn, refersTo}
+use Rattle.tables.specs.Further.Reaching.{Refers, Reaches, refers, refers-on}
+use Rattle.tables.specs.Further.Rules.{Distinct, Rules}
+use Rattle.tables.specs.Further.Obeying.{Obeys}
 use Rattle.tables.proofs.ListLaws.{some-at, map-in, map-from}
 use Rattle.tables.proofs.NameLaws.{in-list, split, unite}
 use Rattle.tables.proofs.ReachingLaws.{along}

@@ -10,8 +10,9 @@ use Rattle.text.specs.Bytes.{every}
 use Rattle.text.proofs.BytesLaws.{same-refl}
 use Rattle.gates.specs.Gate.{Name, Event, Operand, Shape, leaf, and-of, or-of, not-of, Region}
 use Rattle.tables.specs.Table.{_∈_, someOf, nthRegion, names, numberOf, parentNames, operandNames, references}
-use Rattle.tables.specs.Rules.{Distinct}
-use Rattle.tables.specs.Members.{inOperand, inShape, inParent, belongs, Obeys, round, rounds}
+use Rattle.tables.specs.Further.Rules.{Distinct}
+use Rattle.tables.specs.Members.{inOperand, inShape, inParent, belongs, round, rounds}
+use Rattle.tables.specs.Further.Obeying.{Obeys}
 use Rattle.tables.proofs.ListLaws.{map-in}
 use Rattle.tables.proofs.NameLaws.{same-not, region-in, region-of, number-name, in-number}
 use Rattle.tables.proofs.OrderLaws.{Orderly, along-order}

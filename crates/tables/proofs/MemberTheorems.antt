@@ -6,8 +6,9 @@ use lib.ListN.{length}
 use Rattle.counter.specs.Judging.{taken}
 use Rattle.gates.specs.Gate.{Name, Event, Gate, Region, regions}
 use Rattle.tables.specs.Table.{_∈_}
-use Rattle.tables.specs.Rules.{Rules}
-use Rattle.tables.specs.Members.{Obeys, rounds, member}
+use Rattle.tables.specs.Further.Rules.{Rules}
+use Rattle.tables.specs.Members.{rounds, member}
+use Rattle.tables.specs.Further.Obeying.{Obeys}
 use Rattle.tables.proofs.MemberLaws.{same-value, rounds-obey, obey-agree}
 use Rattle.tables.proofs.GateLaws.{orderly}
 

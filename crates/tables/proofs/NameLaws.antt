@@ -15,7 +15,7 @@ use Rattle.text.proofs.TestLaws.{true≢false}
 use Rattle.gates.specs.Gate.{Name, Region}
 use Rattle.tables.specs.Table.{_∈_, noRegion, nthRegion, apart, newName, different, names, otherName, numberOf}
 use Rattle.tables.specs.Reaching.{isIn}
-use Rattle.tables.specs.Rules.{Distinct}
+use Rattle.tables.specs.Further.Rules.{Distinct}
 use Rattle.tables.proofs.ListLaws.{unless, not-not, not-true, some-at, some-found, map-in, map-from, at-in, index-of}
 
 -- ---- equality

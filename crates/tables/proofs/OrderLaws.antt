@@ -18,8 +18,8 @@ use Rattle.text.specs.Bytes.{every}
 use Rattle.text.proofs.TestLaws.{true≢false, passed-or-failed, and-left, and-right}
 use Rattle.gates.specs.Gate.{Name, Region}
 use Rattle.tables.specs.Table.{_∈_, nthRegion, names, numberOf, references, sumOf}
-use Rattle.tables.specs.Reaching.{Reaches, refers, refers-on}
-use Rattle.tables.specs.Rules.{Distinct}
+use Rattle.tables.specs.Further.Reaching.{Reaches, refers, refers-on}
+use Rattle.tables.specs.Further.Rules.{Distinct}
 use Rattle.tables.specs.Steps.{isWritten, ready, waiting, nextRegion, orderFrom, order}
 use Rattle.tables.proofs.ListLaws.{not-not, not-true, and-fails, every-at, every-fails}
 use Rattle.tables.proofs.NameLaws.{region-in, number-name, in-number}

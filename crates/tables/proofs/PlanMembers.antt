@@ -11,7 +11,8 @@ use lib.IntN.{ℤ, pos}
 use lib.ListN.{length, getD, length-map}
 use borrow.Author.Tests.{eqb-true, eqb-false}
 use Rattle.plans.specs.Indices.{all, any}
-use Rattle.plans.specs.Words.{word, number, inRange}
+use Rattle.plans.specs.Words.{word, number}
+use Rattle.integers.specs.Range.{inRange}
 use Rattle.plans.specs.Bits.{hasBit, withBit}
 use Rattle.plans.specs.Form.{regionAt, nextAt, stepCount}
 use Rattle.plans.proofs.BitLaws.{has-with-same, has-with-other}
@@ -23,7 +24,8 @@ use Rattle.text.proofs.TestLaws.{true≢false, passed-or-failed}
 use Rattle.gates.specs.Gate.{Name, Event, Operand, Shape, leaf, and-of, or-of, not-of, Region}
 use Rattle.gates.proofs.GoodGate.{GoodShape}
 use Rattle.tables.specs.Table.{_∈_, someOf, nthRegion, numberOf, parentNames, operandNames, references}
-use Rattle.tables.specs.Members.{inOperand, inShape, inParent, Obeys}
+use Rattle.tables.specs.Members.{inOperand, inShape, inParent}
+use Rattle.tables.specs.Further.Obeying.{Obeys}
 use Rattle.tables.specs.Steps.{isWritten, shapeKind, referenceWord, bodyWords, parentWord, stepWords, stepsWords, order, planWords}
 use Rattle.tables.proofs.ListLaws.{every-fails, every-at, some-found, some-at, at-in, index-of, map-in}
 use Rattle.tables.proofs.NameLaws.{region-in, number-name, in-number}

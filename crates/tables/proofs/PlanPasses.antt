@@ -9,7 +9,8 @@ use lib.IntN.{ℤ, pos, negsuc}
 use lib.ListN.{length, getD, length-append, length-map}
 use borrow.Author.Tests.{lt-ltb, le-ltb, le-leb}
 use Rattle.plans.specs.Indices.{firstBad}
-use Rattle.plans.specs.Words.{word, number, inRange}
+use Rattle.plans.specs.Words.{word, number}
+use Rattle.integers.specs.Range.{inRange}
 use Rattle.plans.specs.Bits.{hasBit, withBit}
 use Rattle.plans.specs.Refusals.{passed, refused}
 use Rattle.plans.specs.Form.{spans, lengthGood, earlier, free, parentGood, operandWord, bodyWord, headWord, width, stepCount}

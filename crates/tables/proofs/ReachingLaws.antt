@@ -10,7 +10,8 @@ use lib.ListN.{length}
 use Rattle.text.proofs.TestLaws.{and-left, and-right}
 use Rattle.gates.specs.Gate.{Gate}
 use Rattle.tables.specs.Table.{_∈_, noGate, nthGate}
-use Rattle.tables.specs.Reaching.{Reaches, refers, refers-on, Refers, refersAt, reachesBy, reachesItself}
+use Rattle.tables.specs.Reaching.{refersAt, reachesBy, reachesItself}
+use Rattle.tables.specs.Further.Reaching.{Reaches, refers, refers-on, Refers}
 use Rattle.tables.proofs.ListLaws.{or-passes, or-left, or-right, at-in, index-of}
 
 -- ---- paths

@@ -16,7 +16,7 @@ use Rattle.text.proofs.TestLaws.{true≢false, and-left, and-right, passed-or-f
 use Rattle.gates.specs.Gate.{Name, Gate, Region, gateRegions, regions}
 use Rattle.tables.specs.Table.{noGate, nthGate, noRegion, nthRegion, upTo, ownNames, given, apart, newName, different, names, numberOf}
 use Rattle.tables.specs.Reaching.{isIn}
-use Rattle.tables.specs.Rules.{Distinct}
+use Rattle.tables.specs.Further.Rules.{Distinct}
 use Rattle.tables.proofs.ListLaws.{unless, map-in, map-from, at-in, index-of}
 use Rattle.tables.proofs.NameLaws.{in-list, list-in, number-name, number-at}
 

@@ -10,6 +10,7 @@ use Rattle.text.proofs.TextTheorems.{unlines-lines, lines-without, lines-unline
 use Rattle.text.proofs.TestLaws.{true≢false}
 use Rattle.gates.specs.Refusal.{lineRefusal}
 use Rattle.gates.specs.Gate.{Name, Shape, leaf, and-of, or-of, not-of, Region, regions}
+use Rattle.gates.specs.Encoding.{leafWords}
 use Rattle.tables.specs.Table.{_∈_, noRegion, nthRegion, sumOf}
 use Rattle.tables.specs.Head.{headFields, dimensions, headGood, gateLines, lineGate, gates, LineOrder, reordered}
 use Rattle.tables.specs.Steps.{bodyWords, stepWords, stepsWords, order, planWords}
@@ -24,7 +25,7 @@ use Rattle.tables.proofs.Acceptance.{Accepted}
 -- ---- the length of a plan does not rest on the order of its steps
 
 abbrev pub bodySize : Shape → ℕ
-bodySize (leaf l) = length (l .words)
+bodySize (leaf l) = length (leafWords l)
 bodySize (and-of os) = length os
 bodySize (or-of os) = length os
 bodySize (not-of o) = 1

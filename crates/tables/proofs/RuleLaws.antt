@@ -12,7 +12,7 @@ use Rattle.text.proofs.TestLaws.{true≢false}
 use Rattle.gates.specs.Gate.{Name, Gate, regions}
 use Rattle.tables.specs.Table.{_∈_, nthGate, upTo, given, names, numberOf, gateReferences}
 use Rattle.tables.specs.Reaching.{reachesItself}
-use Rattle.tables.specs.Rules.{Distinct, Rules}
+use Rattle.tables.specs.Further.Rules.{Distinct, Rules}
 use Rattle.tables.specs.Refusals.{uncrowded, unrepeated, isRegion, living, uncircled}
 use Rattle.tables.proofs.ListLaws.{unless, not-true, every-at, every-of}
 use Rattle.tables.proofs.NameLaws.{split, different-distinct, distinct-different, in-number, number-in}

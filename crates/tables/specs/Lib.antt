@@ -3,10 +3,10 @@
 pub mod Table
 pub mod Head
 pub mod Reaching
-pub mod Rules
 pub mod Members
 pub mod Steps
 pub mod Refusals
 pub mod Compile
 pub mod TableCount
 pub mod Demand
+pub mod Further

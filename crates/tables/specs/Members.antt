@@ -1,5 +1,4 @@
 -- Members of a region, from a table's own gates.
-use mathlib.Core.Path.{_≡_}
 use mathlib.Core.Bool.{Bool, true, false, not, _&&_, cond}
 use mathlib.Core.Option.{Option, none, some}
 use mathlib.Core.List.{List}
@@ -8,7 +7,8 @@ use lib.ListN.{length}
 use Rattle.counter.specs.Judging.{taken}
 use Rattle.text.specs.Bytes.{same, every}
 use Rattle.gates.specs.Gate.{Name, Event, Operand, Shape, leaf, and-of, or-of, not-of, Gate, Region, regions}
-use Rattle.tables.specs.Table.{_∈_, someOf}
+use Rattle.gates.specs.Meaning.{holds}
+use Rattle.tables.specs.Table.{someOf}
 
 -- ---- an event that is taken, given of which names it is a member
 
@@ -18,7 +18,7 @@ module _ (m : Name → Bool) where
   inOperand o = cond (o .complement) (not (m (o .name))) (m (o .name))
 
   abbrev pub inShape : Event → Shape → Bool
-  inShape e (leaf l) = l .holds e
+  inShape e (leaf l) = holds l e
   inShape e (and-of os) = every inOperand os
   inShape e (or-of os) = someOf inOperand os
   inShape e (not-of o) = not (inOperand o)
@@ -31,12 +31,8 @@ module _ (m : Name → Bool) where
   abbrev pub belongs : Event → Region → Bool
   belongs e r = inShape e (r .shape) && inParent (r .parent)
 
--- 01's equations, one for each region
-abbrev pub Obeys : List Region → Event → (Name → Bool) → Type 0
-Obeys rs e m = (r : Region) → r ∈ rs → m (r .name) ≡ belongs m e r
-
--- ---- the members: as many rounds of the equations as there are regions; `member-obeys` and `member-only` in proofs/ say that they obey
--- them, and nothing else does
+-- ---- the members: as many rounds of these equations as there are regions, which is enough: `member-obeys` and `member-only` in proofs/ say that the
+-- members obey the equations, and nothing else does
 
 abbrev pub round : List Region → Event → (Name → Bool) → Name → Bool
 round rs e m n = someOf (λ (r : Region). same n (r .name) && belongs m e r) rs

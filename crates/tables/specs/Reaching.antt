@@ -1,12 +1,11 @@
--- What a gate refers to and reaches, and the bounded test for it.
-use mathlib.Core.Path.{_≡_}
-use mathlib.Core.Bool.{Bool, true, _&&_, _||_}
+-- What a gate refers to and reaches.
+use mathlib.Core.Bool.{Bool, _&&_, _||_}
 use mathlib.Core.List.{List}
 use Prim.Native.Nat.{ℕ, zero, suc}
 use lib.ListN.{length}
 use Rattle.text.specs.Bytes.{same}
 use Rattle.gates.specs.Gate.{Name, Gate, gateRegions}
-use Rattle.tables.specs.Table.{_∈_, someOf, nthGate, names, gateReferences}
+use Rattle.tables.specs.Table.{someOf, nthGate, names, gateReferences}
 
 -- ---- referring
 
@@ -18,16 +17,7 @@ isIn l n = someOf (same n) l
 unfoldable pub refersTo : Gate → Gate → Bool
 refersTo g h = someOf (isIn (names (gateRegions h))) (gateReferences g)
 
-abbrev pub Refers : List Gate → Gate → Gate → Type 0
-Refers t g h = (h ∈ t) × (refersTo g h ≡ true)
-
--- ---- reaching: a gate reaches what it refers to, and what that reaches
-
-pub data Reaches {A : Type 0} (E : A → A → Type 0) : A → A → Type 0 where
-  refers : {a b : A} → E a b → Reaches E a b
-  refers-on : {a b c : A} → E a b → Reaches E b c → Reaches E a c
-
--- ---- the test, over gates by number
+-- ---- reaching, over gates by number: a gate reaches what it refers to, and what that reaches (specs/Further/Reaching says it so)
 
 unfoldable pub refersAt : List Gate → ℕ → ℕ → Bool
 refersAt t i j = refersTo (nthGate t i) (nthGate t j)

@@ -8,10 +8,12 @@ use lib.ListN.{length}
 use lib.Dec.{ltb}
 use Rattle.plans.specs.Indices.{firstBad}
 use Rattle.plans.specs.Bits.{hasBit, withBit}
+use Rattle.plans.specs.Form.{kindNumber}
 use Rattle.plans.specs.declared.Kind.{Kind}
-use Rattle.plans.specs.declared.Kind.the-variants.{Box, Polygon, Ellipse, And, Or, Not, Unknown}
+use Rattle.plans.specs.declared.Kind.the-variants.{And, Or, Not}
 use Rattle.text.specs.Bytes.{every}
 use Rattle.gates.specs.Gate.{Name, Operand, Shape, leaf, and-of, or-of, not-of, Region}
+use Rattle.gates.specs.Encoding.{leafKind, leafWords}
 use Rattle.tables.specs.Table.{nthRegion, numberOf, references}
 
 -- ---- the order: written is the set of regions whose steps are written, as bits
@@ -41,17 +43,8 @@ order rs = orderFrom (length rs) rs 0
 
 -- ---- the words of a step: kind, region, parent, body length, body
 
-abbrev pub kindNumber : Kind → ℕ
-kindNumber Box = 1
-kindNumber Polygon = 2
-kindNumber Ellipse = 3
-kindNumber And = 4
-kindNumber Or = 5
-kindNumber Not = 6
-kindNumber Unknown = 0
-
 abbrev pub shapeKind : Shape → Kind
-shapeKind (leaf l) = l .kind
+shapeKind (leaf l) = leafKind l
 shapeKind (and-of os) = And
 shapeKind (or-of os) = Or
 shapeKind (not-of o) = Not
@@ -61,7 +54,7 @@ abbrev pub referenceWord : List Region → Operand → ℤ
 referenceWord rs o = pos (2 * numberOf rs (o .name) + cond (o .complement) 1 0)
 
 abbrev pub bodyWords : List Region → Shape → List ℤ
-bodyWords rs (leaf l) = l .words
+bodyWords rs (leaf l) = leafWords l
 bodyWords rs (and-of os) = map (referenceWord rs) os
 bodyWords rs (or-of os) = map (referenceWord rs) os
 bodyWords rs (not-of o) = referenceWord rs o ∷ []

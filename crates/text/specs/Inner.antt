@@ -1,4 +1,6 @@
 -- Definitions that only inner contracts and proofs cite.
+pub mod Kept
+pub mod Joining
 pub mod Places
 pub mod Counts
 pub mod Writing

@@ -12,7 +12,7 @@ use lib.ListN.{length}
 use Rattle.text.specs.Bounded.{tab}
 use Rattle.text.proofs.TestLaws.{true≢false, and-left, and-right, passed-or-failed}
 use Rattle.text.proofs.BoundedLaws.{length-tab, tab-ext}
-use Rattle.plans.specs.Form.{spans, spansBy}
+use Rattle.plans.specs.Form.{kindNumber, spans, spansBy}
 use Rattle.plans.proofs.IndexLaws.{first-to}
 use Rattle.gates.specs.declared.LineKind.{LineKind}
 use Rattle.gates.specs.declared.LineKind.the-variants.{Rect, Poly, Ellip, Quad, And, Or, Not, Unknown}
@@ -20,14 +20,14 @@ use Rattle.gates.specs.Kinds.{fieldAt, lineKind, isUnknown, isQuad, isNone, isC
 use Rattle.gates.specs.Quads.{dividerCount}
 use Rattle.gates.specs.Rules.{noRefusal}
 use Rattle.gates.specs.Refusal.{lineRefusal}
-use Rattle.gates.specs.Gate.{Name, Leaf, leaf, Region}
-use Rattle.gates.specs.Meaning.{rectLeaf, polyLeaf, ellipLeaf, quadrantOf, operandOf, parentOf}
+use Rattle.gates.specs.Gate.{Name, Leaf, rect, poly, ellip, quadrant, leaf, Region}
+use Rattle.gates.specs.Meaning.{operandOf, parentOf}
 use Rattle.gates.specs.Inner.Regions.{regionCount, regionName, lineShape, regionShape, stepNumber, bodyLength, bodyWordOf}
 use Rattle.gates.proofs.AcceptedLaws.{Accepted}
 use Rattle.gates.proofs.QuadLaws.{count-small}
 use Rattle.gates.proofs.GateLaws.{map-tab, leaf-words, line-accepted}
 use Rattle.tables.specs.Table.{nthRegion, otherName, numberOf}
-use Rattle.tables.specs.Steps.{kindNumber, shapeKind, referenceWord, bodyWords, parentWord, stepWords}
+use Rattle.tables.specs.Steps.{shapeKind, referenceWord, bodyWords, parentWord, stepWords}
 use Rattle.writer.specs.Inner.Words.{numberWord, parentNumberWord, header, operandNumberWord, stepBy, combines, operandAt, parentNumber, lineStep}
 use Rattle.writer.proofs.WordLaws.{step-length}
 
@@ -87,10 +87,10 @@ length-in head Not fs a = omega (arith, eqb-true (length fs - 3) 1 (a .shape))
 length-in head Unknown fs a = absurd (true≢false (a .known))
 
 leaf-in : (head : List (List ℕ)) (kind : LineKind) (fs : List (List ℕ)) (q : ℕ) → isUnknown kind ≡ false → combines kind ≡ false → (l : Leaf) × (lineShape head kind fs q ≡ leaf l)
-leaf-in head Rect fs q u c = (rectLeaf head fs, refl)
-leaf-in head Poly fs q u c = (polyLeaf head fs, refl)
-leaf-in head Ellip fs q u c = (ellipLeaf head fs, refl)
-leaf-in head Quad fs q u c = (quadrantOf head fs q .box, refl)
+leaf-in head Rect fs q u c = (rect head fs, refl)
+leaf-in head Poly fs q u c = (poly head fs, refl)
+leaf-in head Ellip fs q u c = (ellip head fs, refl)
+leaf-in head Quad fs q u c = (quadrant head fs q, refl)
 leaf-in head And fs q u c = absurd (true≢false c)
 leaf-in head Or fs q u c = absurd (true≢false c)
 leaf-in head Not fs q u c = absurd (true≢false c)

@@ -3,9 +3,9 @@ use mathlib.Core.List.{List, map}
 use Prim.Native.Nat.{ℕ, _+_}
 use lib.ListN.{length, getD, replicate}
 use Rattle.text.specs.Bounded.{tab}
-use Rattle.text.specs.Lines.{lines, fields, lineStarts}
+use Rattle.text.specs.Lines.{lines, fields}
+use Rattle.text.specs.Inner.Places.{lineStarts, lineFrom}
 use Rattle.text.specs.Output.{over}
-use Rattle.text.specs.Inner.Places.{lineFrom}
 use Rattle.gates.specs.Gate.{Gate, Region, regions}
 use Rattle.tables.specs.Head.{dimensions, lineGate}
 use Rattle.resolve.specs.declared.Starts.{Starts}

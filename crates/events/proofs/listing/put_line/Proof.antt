@@ -8,13 +8,13 @@ use lib.ListN.{length, take}
 use Rattle.text.specs.Output.{over}
 use Rattle.text.specs.Lines.{fields}
 use Rattle.text.proofs.OutputLaws.{over-length}
-use Rattle.events.specs.Listing.{lineValues}
-use Rattle.events.proofs.ListingLaws.{line-more, lineValues-length}
+use Rattle.events.specs.Inner.Answers.{lineKept}
+use Rattle.events.proofs.ListingLaws.{line-more, lineKept-length}
 use Rattle.events.proofs.listing.put_line.Statement.{statement}
 use Rattle.events.proofs.listing.put_line.Tie as tie
 
 abbrev Inv-loop : tie.InvT-loop
-Inv-loop rest₀ line n k₀ rest k = (n ≡ length (fields line)) × (k ≤ n) × (rest ≡ over (take k (lineValues line)) rest₀)
+Inv-loop rest₀ line n k₀ rest k = (n ≡ length (fields line)) × (k ≤ n) × (rest ≡ over (take k (lineKept line)) rest₀)
 
 abbrev μ-loop : tie.MeasureT-loop
 μ-loop rest₀ line n k₀ rest k = n - k
@@ -42,8 +42,8 @@ returns : tie.Need-returns Inv-loop μ-loop
 returns c =
     let l = c .before in
     let s = l .before .before .before .args .line .now in
-    let e = lineValues-length s in
-    (omega arith, rw (l .loop .inv .2, take-all (l .loop .k) (lineValues s) (omega arith)))
+    let e = lineKept-length s in
+    (omega arith, rw (l .loop .inv .2, take-all (l .loop .k) (lineKept s) (omega arith)))
 
 pub put-line-spec : {M : Type 1} → statement M
 put-line-spec =

@@ -1,6 +1,7 @@
--- `value_of`: what is kept of the number that was read.
+-- `value_of` keeps what is read of a number.
 use mir.Syntax.{w32}
 use mir.ValLaws.{toZ-ofZ}
+use Rattle.text.proofs.NumbersLaws.{kept-read}
 use Rattle.gates.specs.Kinds.{valueOf}
 use borrow.Author.Needs.{needs}
 use Rattle.gatefields.proofs.fields.value_of.Statement.{statement}
@@ -8,7 +9,7 @@ use Rattle.gatefields.proofs.fields.value_of.Tie as tie
 
 returns : tie.Need-returns
 unfolding valueOf
-returns c = rw (toZ-ofZ w32 _ (record { sfits = c .kept .ok }), c .kept .ensures, c .before .read-number .ensures)
+returns c = rw (toZ-ofZ w32 _ (record { sfits = c .kept .ok }), c .kept .ensures, c .before .read-number .ensures, kept-read)
 
 pub value-of-spec : {M : Type 1} → statement M
 value-of-spec =

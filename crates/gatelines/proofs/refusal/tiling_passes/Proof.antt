@@ -1,29 +1,13 @@
--- `tiling_passes`: by the kind; a quad line is held to tiling.
+-- `tiling_passes`: only a quad line is asked to tile.
 use borrow.Author.Needs.{needs}
 use Rattle.gatelines.proofs.refusal.tiling_passes.Statement.{statement}
 use Rattle.gatelines.proofs.refusal.tiling_passes.Tie as tie
 
-returns-4 : tie.Need-returns-4
-returns-4 c = rw (c .before .enum-told4 .given .1) (c .tiles .ensures)
+returns : tie.Need-returns
+returns c = rw (← c .before .before .is-quad .ensures, c .before .if1 .taken) (c .tiles .ensures)
+
+returns-2 : tie.Need-returns-2
+returns-2 c = rw (← c .before .is-quad .ensures, c .if1 .left)
 
 pub tiling-passes-spec : {M : Type 1} → statement M
-tiling-passes-spec =
-    tie.close
-    (tie.spec
-    (λ c. search needs)
-    (λ c. search needs)
-    (λ c. search needs)
-    (λ c. search needs)
-    (λ c κs. search needs)
-    (λ c. search needs)
-    (λ c. search needs)
-    (λ c. search needs)
-    (λ c. search needs)
-    (λ c. search needs)
-    (λ c. search needs)
-    (λ c. search needs)
-    returns-4
-    (λ c. search needs)
-    (λ c. search needs)
-    (λ c. search needs)
-    (λ c. search needs))
+tiling-passes-spec = tie.close (tie.spec (λ c κs. search needs) (λ c κs. search needs) returns returns-2)

@@ -2,7 +2,7 @@
 use mir.Syntax.{w32}
 use mir.ValLaws.{toZ-ofZ}
 use borrow.Author.Tests.{eq-eqb, ne-eqb}
-use Rattle.gates.specs.Meaning.{lowerEnd}
+use Rattle.gates.specs.Encoding.{lowerEnd}
 use borrow.Author.Needs.{needs}
 use Rattle.gatelines.proofs.words.lower_end.Statement.{statement}
 use Rattle.gatelines.proofs.words.lower_end.Tie as tie

@@ -1,7 +1,7 @@
 -- `max_word`: `*` stands for the end of the scale.
 use mir.Syntax.{w32}
 use mir.ValLaws.{toZ-ofZ}
-use Rattle.gates.specs.Meaning.{maxWord}
+use Rattle.gates.specs.Encoding.{maxWord}
 use borrow.Author.Needs.{needs}
 use Rattle.gatelines.proofs.words.max_word.Statement.{statement}
 use Rattle.gatelines.proofs.words.max_word.Tie as tie

@@ -1,7 +1,7 @@
 -- `min_word`: `*` stands for the beginning of the scale.
 use mir.Syntax.{w32}
 use mir.ValLaws.{toZ-ofZ}
-use Rattle.gates.specs.Meaning.{minWord}
+use Rattle.gates.specs.Encoding.{minWord}
 use borrow.Author.Needs.{needs}
 use Rattle.gatelines.proofs.words.min_word.Statement.{statement}
 use Rattle.gatelines.proofs.words.min_word.Tie as tie

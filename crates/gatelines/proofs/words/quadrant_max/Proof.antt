@@ -4,7 +4,7 @@ use mir.ValLaws.{toZ-ofZ}
 use native.Mathlib.Omega.{arith}
 use Rattle.text.specs.Lines.{fields}
 use Rattle.gates.specs.Kinds.{fieldAt}
-use Rattle.gates.specs.Meaning.{quadrantMax}
+use Rattle.gates.specs.Encoding.{quadrantMax}
 use Rattle.gates.proofs.QuadLaws.{count-small}
 use borrow.Author.Needs.{needs}
 use Rattle.gatelines.proofs.words.quadrant_max.Statement.{statement}

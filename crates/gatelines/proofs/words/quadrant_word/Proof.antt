@@ -7,7 +7,7 @@ use Prim.Native.Nat.{_/_, _%_, min}
 use borrow.Author.Tests.{eq-eqb, ne-eqb}
 use Rattle.text.specs.Lines.{fields}
 use Rattle.gates.specs.Kinds.{fieldAt}
-use Rattle.gates.specs.Meaning.{quadrantWord}
+use Rattle.gates.specs.Encoding.{quadrantWord}
 use Rattle.gates.proofs.QuadLaws.{count-small}
 use borrow.Author.Needs.{needs}
 use Rattle.gatelines.proofs.words.quadrant_word.Statement.{statement}

@@ -7,7 +7,7 @@ use Prim.Native.Nat.{min}
 use borrow.Author.Tests.{eq-eqb, ne-eqb}
 use Rattle.text.specs.Lines.{fields}
 use Rattle.gates.specs.Quads.{valueCount}
-use Rattle.gates.specs.Meaning.{upperEnd}
+use Rattle.gates.specs.Encoding.{upperEnd}
 use borrow.Author.Needs.{needs}
 use Rattle.gatelines.proofs.words.upper_end.Statement.{statement}
 use Rattle.gatelines.proofs.words.upper_end.Tie as tie

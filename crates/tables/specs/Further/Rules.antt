@@ -1,10 +1,10 @@
--- The rules that the gates of a table keep together: refusals 13 to 16 as what must not be.
+-- Refusals 13 to 16 as what must not be: the rules that the gates of a table keep together (`passed-accepted` and `accepted-passed` in proofs/Acceptance say that they are those refusals).
 use mathlib.Core.List.{List, [], _∷_}
 use Prim.Native.Nat.{_≤_}
 use lib.ListN.{length}
 use Rattle.gates.specs.Gate.{Name, Gate, regions}
 use Rattle.tables.specs.Table.{_∈_, given, names, gateReferences}
-use Rattle.tables.specs.Reaching.{Refers, Reaches}
+use Rattle.tables.specs.Further.Reaching.{Refers, Reaches}
 
 abbrev pub Distinct : List Name → Type 0
 Distinct [] = Unit {0}

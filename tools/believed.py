@@ -1,0 +1,78 @@
+#!/usr/bin/env python3
+"""The definitions that a reader must believe: the files of crates/*/specs, without those in specs/Inner, with their lines.
+
+    tools/believed.py            prints the tables that docs/DEMANDS.md holds
+    tools/believed.py --write    puts them there
+    tools/believed.py --check    exit status 1 where docs/DEMANDS.md holds something else, or demands 1 to 3 take more than 800 lines
+
+A line counts that is not blank, no comment, no import and no `pub mod`.
+"""
+import glob
+import os
+import re
+import sys
+
+ROOT = os.path.join(os.path.dirname(os.path.abspath(__file__)), '..')
+BEGIN, END = '<!-- tools/believed.py writes from here -->\n', '<!-- to here -->\n'
+DOCUMENT = 'docs/DEMANDS.md'
+LIMIT = 800
+DEMANDS = 'integers plans counter text gates tables compiler counttable'.split()
+GROUPS = (('Demands 1 to 3', DEMANDS), ("The programs' text", None), ('The rows of the C interface', 'gatec gatejudge gatecompile'.split()))
+
+
+def crates():
+    """The crates in the order of crates.txt."""
+    with open('crates.txt', encoding='utf-8') as file:
+        return [line.split(':')[0].strip() for line in file if ':' in line and not line.startswith('#')]
+
+
+def title(path):
+    """The comment that a file opens with, its first sentence or clause."""
+    with open(path, encoding='utf-8') as file:
+        first = file.readline()
+    return re.split(r'(?<=[.:]) | \(01:', first.lstrip('- ').strip())[0].rstrip('.:') if first.startswith('--') else ''
+
+
+def lines(path):
+    with open(path, encoding='utf-8') as file:
+        kept = [line.strip() for line in file]
+    return sum(1 for line in kept if line and not line.startswith(('--', 'use ', 'pub mod ')))
+
+
+def files(crate):
+    return [(path, lines(path)) for path in sorted(glob.glob('crates/%s/specs/*.antt' % crate)) if lines(path)]
+
+
+def tables():
+    text, totals = [], []
+    listed = [crate for _, some in GROUPS for crate in some or []]
+    for name, some in GROUPS:
+        found = [(crate, each) for crate in crates() if crate in (some or []) or some is None and crate not in listed for each in files(crate)]
+        total = sum(count for _, (_, count) in found)
+        totals.append(total)
+        text.append('\n%s: %d lines.\n\n| file | lines | what it says |\n|---|---|---|\n' % (name, total))
+        text.extend('| `%s` | %d | %s |\n' % (path, count, title(path).replace('|', '\\|')) for _, (path, count) in found)
+    return ''.join(text) + '\n', totals[0]
+
+
+def main():
+    os.chdir(ROOT)
+    text, total = tables()
+    if sys.argv[1:] not in ([], ['--write'], ['--check']):
+        sys.exit(__doc__)
+    if not sys.argv[1:]:
+        print(text, end='')
+        return
+    with open(DOCUMENT, encoding='utf-8') as file:
+        before, _, rest = file.read().partition(BEGIN)
+    held, _, after = rest.partition(END)
+    if sys.argv[1] == '--write':
+        with open(DOCUMENT, 'w', encoding='utf-8') as file:
+            file.write(before + BEGIN + text + END + after)
+    elif held != text:
+        sys.exit('%s holds other files or lines than crates/*/specs: run tools/believed.py --write' % DOCUMENT)
+    elif total > LIMIT:
+        sys.exit('demands 1 to 3 rest on %d lines of definitions, more than %d' % (total, LIMIT))
+
+
+main()
