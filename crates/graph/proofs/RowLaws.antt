@@ -102,7 +102,8 @@ pub rounds-past : (edges : List ℕ) (k n a b : ℕ) → length edges ≤ k → 
 rounds-past edges k zero a b l = let e : min zero k ≡ zero = omega arith in rw e
 rounds-past edges k (suc n) a b l = go (decLt n k) (rounds-past edges k n a b l)
   where
-    go : Dec (n < k) → reachesBy (bitAt edges) (min n k) a b ≡ reachesBy (bitAt edges) n a b → reachesBy (bitAt edges) (min (suc n) k) a b ≡ reachesBy (bitAt edges) (suc n) a b
+    go : Dec (n < k) → reachesBy (bitAt edges) (min n k) a b ≡ reachesBy (bitAt edges) n a b
+        → reachesBy (bitAt edges) (min (suc n) k) a b ≡ reachesBy (bitAt edges) (suc n) a b
     go (yes h) ih = let e : min (suc n) k ≡ suc n = omega arith in rw e
     go (no h) ih = let e : min (suc n) k ≡ min n k = omega arith in rw (e, ih) (sym (round-idle edges n a b (omega arith)))
 
@@ -159,8 +160,10 @@ module _ (rs : List Region) (rows : List ℕ) (f : Referring rs rows) (set : ℕ
   unfolding isWritten
   written-row r h = go (passed-or-failed (isSubset (getD rows r 0) set))
     where
-      go : (isSubset (getD rows r 0) set ≡ true) ⊎ (isSubset (getD rows r 0) set ≡ false) → isSubset (getD rows r 0) set ≡ every (isWritten rs set) (references (nthRegion rs r))
-      go (inl e) = e ∙ sym (every-of (isWritten rs set) (references (nthRegion rs r)) (λ n m. within-at (getD rows r 0) set (numberOf rs n) e (row-has r h n m)))
+      go : (isSubset (getD rows r 0) set ≡ true) ⊎ (isSubset (getD rows r 0) set ≡ false)
+          → isSubset (getD rows r 0) set ≡ every (isWritten rs set) (references (nthRegion rs r))
+      go (inl e) = e ∙ sym (every-of (isWritten rs set) (references (nthRegion rs r))
+          (λ n m. within-at (getD rows r 0) set (numberOf rs n) e (row-has r h n m)))
       go (inr e) =
           e ∙ sym (unless (every (isWritten rs set) (references (nthRegion rs r)))
           (λ t. true≢false

@@ -39,7 +39,8 @@ module _ {A : Type 0} (f : ℕ → A) (n : ℕ) where
         go : Dec (firstBad other 0 n < n) → ltb (firstBad other 0 n) n ≡ someOf p (tab f n)
         go (yes h) =
             lt-ltb (firstBad other 0 n) n h
-            ∙ sym (some-at p (tab-in (firstBad other 0 n) h) (not-not (p (f (firstBad other 0 n))) (sym (e (firstBad other 0 n)) ∙ first-at other 0 n (omega arith))))
+            ∙ sym (some-at p (tab-in (firstBad other 0 n) h)
+            (not-not (p (f (firstBad other 0 n))) (sym (e (firstBad other 0 n)) ∙ first-at other 0 n (omega arith))))
         go (no h) =
             le-ltb (firstBad other 0 n) n (omega arith)
             ∙ sym (unless (someOf p (tab f n)) (λ t.
