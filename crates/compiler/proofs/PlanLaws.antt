@@ -25,8 +25,10 @@ module _ (n : ℕ) (rs : List Region) (narrow : n ≤ 8) (few : length rs ≤ 64
   unfolding planWords
   plan-length e = omega (arith, e)
 
-  pub plan-put : (d : List ℤ) {m : ℕ} → m ≡ n → {w : List ℤ} → w ≡ set d 0 (numberWord m) → {total : ℕ} → total ≡ length rs → {x : List ℤ} → x ≡ set w 1 (numberWord total) → {b : ℕ} → b ≡ min 2 (length x)
-      → {y : List ℤ} → y ≡ over (stepsWords rs (order rs)) (take (length x - b) (drop b x)) → take b x ++ (y ++ drop (length x - b) (drop b x)) ≡ over (planWords n rs) d
+  pub plan-put : (d : List ℤ) {m : ℕ} → m ≡ n → {w : List ℤ} → w ≡ set d 0 (numberWord m) → {total : ℕ} → total ≡ length rs → {x : List ℤ}
+      → x ≡ set w 1 (numberWord total) → {b : ℕ} → b ≡ min 2 (length x)
+      → {y : List ℤ} → y ≡ over (stepsWords rs (order rs)) (take (length x - b) (drop b x))
+      → take b x ++ (y ++ drop (length x - b) (drop b x)) ≡ over (planWords n rs) d
   unfolding planWords
   plan-put d i j k {x} e {b} f {y} g =
       let w : x ≡ over (pos n ∷ pos (length rs) ∷ []) d =

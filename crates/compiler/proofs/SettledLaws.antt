@@ -32,7 +32,8 @@ use Rattle.tableregions.specs.Inner.Settled.{Settled}
 use Rattle.compiler.specs.Inner.Unrefused.{Unrefused}
 
 -- each gate of lines that pass has a region
-pub lines-regions : (head : List (List ℕ)) (ls : List (List ℕ)) → ((l : List ℕ) → l ∈ ls → lineRefusal head (fields l) ≡ noRefusal) → length ls ≤ length (regions (map (lineGate head) ls))
+pub lines-regions : (head : List (List ℕ)) (ls : List (List ℕ)) → ((l : List ℕ) → l ∈ ls → lineRefusal head (fields l) ≡ noRefusal)
+    → length ls ≤ length (regions (map (lineGate head) ls))
 unfolding lineGate
 lines-regions head [] h = omega arith
 lines-regions head (l ∷ ls) h =
@@ -73,7 +74,8 @@ module _ (text : List ℕ) (u : Unrefused text) where
       omega (
         arith,
         few,
-        lines-regions (dimensions text) (gateLines text) (λ l m. let i = index-of [] (gateLines text) m in ap (λ (x : List ℕ). lineRefusal (dimensions text) (fields x)) (sym (i .2)) ∙ line-passes (i .0) (i .1)),
+        lines-regions (dimensions text) (gateLines text) (λ l m. let i = index-of [] (gateLines text) m in
+            ap (λ (x : List ℕ). lineRefusal (dimensions text) (fields x)) (sym (i .2)) ∙ line-passes (i .0) (i .1)),
       )
 
   module _ (starts : List ℕ) (x : Indexed text starts) {l : ℕ} (c : l ≡ length (lines text)) {n : ℕ} (e : n ≡ l - 1) where

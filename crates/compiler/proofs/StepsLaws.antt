@@ -48,7 +48,8 @@ module _ (rs : List Region) (d : List ℤ) where
         (k, f .filled ∙ ap (λ (l : List ℤ). over l d) (take-all at steps (omega arith)))
 
     pub filling-end : length rs ≤ k → (at ≡ length steps) × (rest ≡ over steps d)
-    filling-end h = let z : length rs - k ≡ 0 = omega arith in all-filled (f .ahead ∙ ap (λ (j : ℕ). stepsWords rs (orderFrom j rs written)) z ∙ order-none rs written)
+    filling-end h = let z : length rs - k ≡ 0 = omega arith in
+        all-filled (f .ahead ∙ ap (λ (j : ℕ). stepsWords rs (orderFrom j rs written)) z ∙ order-none rs written)
 
     module _ (l : k < length rs) where
       one-more : length rs - k ≡ suc (length rs - (k + 1))
@@ -56,7 +57,8 @@ module _ (rs : List Region) (d : List ℤ) where
 
       pub filling-stuck : length rs ≤ nextRegion rs written → (at ≡ length steps) × (rest ≡ over steps d)
       filling-stuck h =
-          all-filled (f .ahead ∙ ap (λ (j : ℕ). stepsWords rs (orderFrom j rs written)) one-more ∙ ap (stepsWords rs) (order-end rs (length rs - (k + 1)) written h))
+          all-filled (f .ahead ∙ ap (λ (j : ℕ). stepsWords rs (orderFrom j rs written)) one-more
+          ∙ ap (stepsWords rs) (order-end rs (length rs - (k + 1)) written h))
 
       module _ (r : ℕ) (e : r ≡ nextRegion rs written) (below : r < length rs) {c : ℕ} (g : c ≡ length (stepWords rs r)) where
         next : drop at steps ≡ stepWords rs r ++ stepsWords rs (orderFrom (length rs - (k + 1)) rs (withBit written r))
@@ -72,7 +74,8 @@ module _ (rs : List Region) (d : List ℤ) where
             ap length next ∙ length-append (stepWords rs r) _ in
             omega (arith, length-drop at steps)
 
-        pub filling-more : c ≤ 65539 → {x : List ℤ} → x ≡ overFrom at (stepWords rs r) rest → {set : ℕ} → set ≡ withBit written r → Filling set (k + 1) (at + c) x
+        pub filling-more : c ≤ 65539 → {x : List ℤ} → x ≡ overFrom at (stepWords rs r) rest → {set : ℕ} → set ≡ withBit written r
+            → Filling set (k + 1) (at + c) x
         filling-more small {x} w {set} s =
             let b = f .bound in
             let i = f .inside in
@@ -88,6 +91,7 @@ module _ (rs : List Region) (d : List ℤ) where
             }
 
 -- the next row is the next region
-pub next-is : (rs : List Region) (rows : List ℕ) → Referring rs rows → {total : ℕ} → total ≡ length rs → (written : ℕ) → {r : ℕ} → r ≡ firstBad (held rows written) 0 total
+pub next-is : (rs : List Region) (rows : List ℕ) → Referring rs rows → {total : ℕ} → total ≡ length rs → (written : ℕ) → {r : ℕ}
+    → r ≡ firstBad (held rows written) 0 total
     → r ≡ nextRegion rs written
 next-is rs rows f {total} e written {r} g = g ∙ ap (λ (k : ℕ). firstBad (held rows written) 0 k) e ∙ next-region rs rows f written

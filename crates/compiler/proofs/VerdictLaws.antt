@@ -34,7 +34,8 @@ named-cond false v w h k = k
 
 unless-line-named : (number : ℕ → ℕ) (good : ℕ → Bool) (k : ℕ) (v : Verdict) → ((i : ℕ) → 1 ≤ number i) → 1 ≤ v .number → 1 ≤ unlessLine number good k v .number
 unfolding unlessLine
-unless-line-named number good k v h l = named-cond (ltb (firstBad good 0 k) k) (refused (number (firstBad good 0 k)) (firstBad good 0 k + 2)) v (h (firstBad good 0 k)) l
+unless-line-named number good k v h l = named-cond (ltb (firstBad good 0 k) k) (refused (number (firstBad good 0 k)) (firstBad good 0 k + 2)) v
+    (h (firstBad good 0 k)) l
 
 text-named : (text : List ℕ) (v : Verdict) → 1 ≤ v .number → 1 ≤ textVerdict text v .number
 unfolding textVerdict linesVerdict namesVerdict refusalAt
@@ -94,7 +95,8 @@ number-accepted slice text e = passed-accepted slice text (verdict-numbered slic
 -- ---- refused by 1 to 16
 
 module _ (text : List ℕ) (slice : List ℤ) where
-  pub refused-16 : (number place : ℕ) → ((v : Verdict) → refused number place ≡ textVerdict text v) → uncompiled slice (refused number place) ≡ compileOf text slice
+  pub refused-16 : (number place : ℕ) → ((v : Verdict) → refused number place ≡ textVerdict text v)
+      → uncompiled slice (refused number place) ≡ compileOf text slice
   unfolding compileOf
   refused-16 number place h =
       let n : 1 ≤ number = rw (← h (refused 1 0)) at (text-named text (refused 1 0) (omega arith)) in
@@ -119,14 +121,16 @@ module _ (text : List ℕ) (slice : List ℤ) where
       refused-18 l = rw (by-size, le-ltb 4096 (length (planOf text)) h, lt-ltb (length slice) (length (planOf text)) l)
 
       pub written : length (planOf text) ≤ length slice → {words : ℕ} → words ≡ length (planOf text) → {number : ℕ} → number ≡ length (regions (gates text))
-          → {after : List ℤ} → after ≡ over (planOf text) slice → _≡_ {A = Compiling} (record { verdict = passed; words = words; regions = number; slice = after }) (compileOf text slice)
+          → {after : List ℤ} → after ≡ over (planOf text) slice
+          → _≡_ {A = Compiling} (record { verdict = passed; words = words; regions = number; slice = after }) (compileOf text slice)
       unfolding compileOf sizeVerdict
       written l e f g = rw (by-size, le-ltb 4096 (length (planOf text)) h, le-ltb (length slice) (length (planOf text)) l, e, f, g)
 
 -- ---- by the answer of the check
 
 module _ (text : List ℕ) (slice : List ℤ) {a : Answer} (h : (v : Verdict) → answered a v ≡ textVerdict text v) where
-  pub refused-as : {x : Answer} → a ≡ x → (number place : ℕ) → ((v : Verdict) → answered x v ≡ refused number place) → uncompiled slice (refused number place) ≡ compileOf text slice
+  pub refused-as : {x : Answer} → a ≡ x → (number place : ℕ) → ((v : Verdict) → answered x v ≡ refused number place)
+      → uncompiled slice (refused number place) ≡ compileOf text slice
   refused-as e number place f = refused-16 text slice number place (λ v. sym (f v) ∙ ap (λ (y : Answer). answered y v) (sym e) ∙ h v)
 
   pub unrefused-as : a ≡ Fine → Unrefused text
@@ -138,7 +142,8 @@ module _ (text : List ℕ) (slice : List ℤ) where
   plan-fits : tableVerdict (length slice) text .number ≡ 0 → length (planOf text) ≤ length slice
   plan-fits e = number-accepted (length slice) text e .slice-fits
 
-  words-in : (b : Bool) → (b ≡ true → length (planOf text) ≤ length slice) → (v : Verdict) → cond b (compiled text slice v) (uncompiled slice v) .words ≤ length slice
+  words-in : (b : Bool) → (b ≡ true → length (planOf text) ≤ length slice) → (v : Verdict)
+      → cond b (compiled text slice v) (uncompiled slice v) .words ≤ length slice
   words-in true h v = h refl
   words-in false h v = omega arith
 

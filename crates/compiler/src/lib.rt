@@ -179,7 +179,8 @@ fn compile_checked(table: &[u8], plan: &mut [i32]) -> Compiled
     Compiled::Written { words, regions }
 }
 
-// Compiles a table: writes its plan over the beginning of a slice, and answers the words and regions written, or the refusal of 1 to 18, the slice then unchanged.
+// Compiles a table: writes its plan over the beginning of a slice, and answers the words and regions written, or the refusal of 1 to 18, the slice then
+// unchanged.
 pub fn compile(table: &[u8], plan: &mut [i32]) -> Compiled
     ensures { λ r. ⌜ compiling r (now (plan .exit)) ≡ compileOf (now (table .entry)) (now (plan .entry)) ⌝ }
 {

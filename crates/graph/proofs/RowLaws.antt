@@ -162,8 +162,8 @@ module _ (rs : List Region) (rows : List ℕ) (f : Referring rs rows) (set : ℕ
     where
       go : (isSubset (getD rows r 0) set ≡ true) ⊎ (isSubset (getD rows r 0) set ≡ false)
           → isSubset (getD rows r 0) set ≡ every (isWritten rs set) (references (nthRegion rs r))
-      go (inl e) =
-          e ∙ sym (every-of (isWritten rs set) (references (nthRegion rs r)) (λ n m. within-at (getD rows r 0) set (numberOf rs n) e (row-has r h n m)))
+      go (inl e) = e ∙ sym (every-of (isWritten rs set) (references (nthRegion rs r))
+          (λ n m. within-at (getD rows r 0) set (numberOf rs n) e (row-has r h n m)))
       go (inr e) =
           e ∙ sym (unless (every (isWritten rs set) (references (nthRegion rs r)))
           (λ t. true≢false

@@ -49,10 +49,12 @@ module _ (head fs : List (List ℕ)) where
       long : length (names (gateRegions (gateOf head fs))) ≡ length (tab (regionName fs) (regionCount fs))
       long = count ∙ sym (length-tab (regionName fs) (regionCount fs))
 
-      each : (q : ℕ) → q < length (names (gateRegions (gateOf head fs))) → getD (names (gateRegions (gateOf head fs))) q [] ≡ getD (tab (regionName fs) (regionCount fs)) q []
+      each : (q : ℕ) → q < length (names (gateRegions (gateOf head fs)))
+          → getD (names (gateRegions (gateOf head fs))) q [] ≡ getD (tab (regionName fs) (regionCount fs)) q []
       each q h =
           let l : q < regionCount fs = omega (arith, count) in
-          List·getD-map named (gateRegions (gateOf head fs)) q noRegion ∙ ap named (region-at head fs q noRegion l) ∙ sym (getD-tab (regionName fs) [] (regionCount fs) q l)
+          List·getD-map named (gateRegions (gateOf head fs)) q noRegion ∙ ap named (region-at head fs q noRegion l)
+          ∙ sym (getD-tab (regionName fs) [] (regionCount fs) q l)
 
   pub names-region : (x : Name) → namesRegion fs x ≡ isIn (names (gateRegions (gateOf head fs))) x
   unfolding namesRegion regionNamed isIn otherRegion
@@ -119,7 +121,8 @@ module _ (head fs : List (List ℕ)) where
           let f : firstBad (otherQuadrant fs x) 0 (quadCount fs) ≡ k =
           eqb-true (firstBad (otherQuadrant fs x) 0 (quadCount fs)) k
           (and-right (not (same x (fieldAt fs 1))) (eqb (firstBad (otherQuadrant fs x) 0 (quadCount fs)) k) (all-at (newQuadrant fs) (quadCount fs) e k b)) in
-          let z : same x (quadrantName fs j) ≡ false = not-true (same x (quadrantName fs j)) (first-before (otherQuadrant fs x) 0 (quadCount fs) j (omega arith) (omega (arith, f))) in
+          let z : same x (quadrantName fs j) ≡ false = not-true (same x (quadrantName fs j))
+          (first-before (otherQuadrant fs x) 0 (quadCount fs) j (omega arith) (omega (arith, f))) in
           true≢false (sym (rw y (same-refl x)) ∙ z)
 
   distinct-own : Distinct (fieldAt fs 1 ∷ tab (quadrantName fs) (quadCount fs)) → ownDifferent fs ≡ true
@@ -135,9 +138,11 @@ module _ (head fs : List (List ℕ)) where
       at : (q : ℕ) → q < quadCount fs → getD ns (suc q) [] ≡ quadrantName fs q
       at q h = getD-tab (quadrantName fs) [] (quadCount fs) q h
 
-      each : (q : ℕ) → q < quadCount fs → (not (same (quadrantName fs q) (fieldAt fs 1)) && eqb (firstBad (otherQuadrant fs (quadrantName fs q)) 0 (quadCount fs)) q) ≡ true
+      each : (q : ℕ) → q < quadCount fs
+          → (not (same (quadrantName fs q) (fieldAt fs 1)) && eqb (firstBad (otherQuadrant fs (quadrantName fs q)) 0 (quadCount fs)) q) ≡ true
       each q h =
-          let a : same (quadrantName fs q) (fieldAt fs 1) ≡ false = same-not (quadrantName fs q) (fieldAt fs 1) (λ e. distinct-at ns d 0 (suc q) (omega arith) (omega (arith, long)) (sym e ∙ sym (at q h))) in
+          let a : same (quadrantName fs q) (fieldAt fs 1) ≡ false =
+          same-not (quadrantName fs q) (fieldAt fs 1) (λ e. distinct-at ns d 0 (suc q) (omega arith) (omega (arith, long)) (sym e ∙ sym (at q h))) in
           let f : firstBad (otherQuadrant fs (quadrantName fs q)) 0 (quadCount fs) ≡ q =
           first-is (otherQuadrant fs (quadrantName fs q)) 0 (quadCount fs) q (omega arith) (omega arith)
           (λ j _ l.
@@ -199,16 +204,21 @@ module _ (head fs : List (List ℕ)) where
       parent true q = absurd (true≢false (sym q))
       parent false q = here refl
 
-      go : Dec (2 < k) → cond (eqb k 2) (fieldAt fs 2) (operandName (fieldAt fs k)) ∈ (parentNames (parentOf (fieldAt fs 2)) ++ tab (λ j. operandName (fieldAt fs (3 + j))) (referenceEnd fs - 3))
+      go : Dec (2 < k) → cond (eqb k 2) (fieldAt fs 2) (operandName (fieldAt fs k)) ∈
+          (parentNames (parentOf (fieldAt fs 2)) ++ tab (λ j. operandName (fieldAt fs (3 + j))) (referenceEnd fs - 3))
       go (yes u) =
           let q : k ≡ 3 + (k - 3) = omega arith in
           rw (ne-eqb k 2 (λ z. omega arith))
-          (Memᴰ·append-right (parentNames (parentOf (fieldAt fs 2))) (Memᴰ·cast (ap (λ (i : ℕ). operandName (fieldAt fs i)) q) (tab-in (λ j. operandName (fieldAt fs (3 + j))) (referenceEnd fs - 3) (k - 3) (omega arith))))
+          (Memᴰ·append-right (parentNames (parentOf (fieldAt fs 2)))
+          (Memᴰ·cast (ap (λ (i : ℕ). operandName (fieldAt fs i)) q)
+          (tab-in (λ j. operandName (fieldAt fs (3 + j))) (referenceEnd fs - 3) (k - 3) (omega arith))))
       go (no u) =
           let q : k ≡ 2 = omega arith in
-          rw (eq-eqb k 2 q) (Memᴰ·append-left (tab (λ j. operandName (fieldAt fs (3 + j))) (referenceEnd fs - 3)) (parent (isNone (fieldAt fs 2)) (rw (eq-eqb k 2 q) at e)))
+          rw (eq-eqb k 2 q) (Memᴰ·append-left (tab (λ j. operandName (fieldAt fs (3 + j))) (referenceEnd fs - 3))
+          (parent (isNone (fieldAt fs 2)) (rw (eq-eqb k 2 q) at e)))
 
-  pub in-reference : {n : Name} → n ∈ gateReferences (gateOf head fs) → (k : ℕ) × (2 ≤ k) × (k < referenceEnd fs) × (hasReference fs k ≡ true) × (referenceAt fs k ≡ n)
+  pub in-reference : {n : Name} → n ∈ gateReferences (gateOf head fs)
+      → (k : ℕ) × (2 ≤ k) × (k < referenceEnd fs) × (hasReference fs k ≡ true) × (referenceAt fs k ≡ n)
   unfolding hasReference referenceAt parentOf
   in-reference {n} m = go (List·Memᴰ·append-cases (parentNames (parentOf (fieldAt fs 2))) (rw references-listed at m))
     where
@@ -217,7 +227,8 @@ module _ (head fs : List (List ℕ)) where
       parent false q = (refl, sym (List·Memᴰ·eq-of-singleton q))
 
       go : (n ∈ parentNames (parentOf (fieldAt fs 2))) ⊎ (n ∈ tab (λ j. operandName (fieldAt fs (3 + j))) (referenceEnd fs - 3))
-          → (k : ℕ) × (2 ≤ k) × (k < referenceEnd fs) × (not (eqb k 2 && isNone (fieldAt fs 2)) ≡ true) × (cond (eqb k 2) (fieldAt fs 2) (operandName (fieldAt fs k)) ≡ n)
+          → (k : ℕ) × (2 ≤ k) × (k < referenceEnd fs) × (not (eqb k 2 && isNone (fieldAt fs 2)) ≡ true) ×
+          (cond (eqb k 2) (fieldAt fs 2) (operandName (fieldAt fs k)) ≡ n)
       go (inl u) = let w = parent (isNone (fieldAt fs 2)) u in (2, omega arith, end-past, w .0, w .1)
       go (inr u) =
           let w = in-tab (λ j. operandName (fieldAt fs (3 + j))) (referenceEnd fs - 3) u in
@@ -256,9 +267,11 @@ module _ (head fs gs : List (List ℕ)) where
       back e =
           let w = some-found named (gateReferences (gateOf head fs)) e in
           let r = in-reference head fs (w .1) in
-          lt-ltb first (referenceEnd fs) (go (r .0) (r .1) (r .2) (r .3) (names-region head gs (referenceAt fs (r .0)) ∙ ap named (r .4) ∙ w .2) (decLt first (referenceEnd fs)))
+          lt-ltb first (referenceEnd fs)
+          (go (r .0) (r .1) (r .2) (r .3) (names-region head gs (referenceAt fs (r .0)) ∙ ap named (r .4) ∙ w .2) (decLt first (referenceEnd fs)))
         where
-          go : (k : ℕ) → 2 ≤ k → k < referenceEnd fs → hasReference fs k ≡ true → namesRegion gs (referenceAt fs k) ≡ true → Dec (first < referenceEnd fs) → first < referenceEnd fs
+          go : (k : ℕ) → 2 ≤ k → k < referenceEnd fs → hasReference fs k ≡ true → namesRegion gs (referenceAt fs k) ≡ true → Dec (first < referenceEnd fs)
+              → first < referenceEnd fs
           go k l h a n (yes u) = u
           go k l h a n (no u) =
               absurd (true≢false (sym (first-before (passesBy fs gs) 2 (referenceEnd fs - 2) k l (omega arith)) ∙ rw (a, n)))

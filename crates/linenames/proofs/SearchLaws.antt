@@ -1,5 +1,6 @@
 -- What the tests of a loop over names say of the definitions.
-use mathlib.Core.Path.{_≡_}
+use mathlib.Core.Path.{_≡_, sym, ap}
+use mathlib.Core.Logic.{_⊎_, inl, inr}
 use mathlib.Core.Bool.{Bool, true, false, not, cond, _&&_}
 use mathlib.Core.List.{List, []}
 use Prim.Native.Nat.{ℕ, _-_, _<_, _≤_}
@@ -9,34 +10,28 @@ use lib.Dec.{ltb}
 use lib.ListN.{length, getD, List·getD-eq-default}
 use borrow.Author.Tests.{lt-ltb, le-ltb}
 use Rattle.plans.specs.Indices.{any, firstBad}
+use Rattle.plans.proofs.IndexLaws.{first-same}
 use Rattle.text.specs.Bytes.{same}
+use Rattle.text.proofs.TestLaws.{passed-or-failed}
 use Rattle.gates.specs.Kinds.{fieldAt, lineKind, isQuad}
 use Rattle.gates.specs.Quads.{quadrantCount, quadrantAt}
 use Rattle.gates.specs.Inner.Regions.{regionCount, regionName}
-use Rattle.linenames.specs.Inner.LineNames.{otherRegion, namesRegion, quadCount, quadrantName, otherQuadrant, givesName, sharesQuadrant, sharesName, referenceEnd, hasReference, referenceAt, passesBy, refersLine}
+use Rattle.linenames.specs.Inner.LineNames.{otherRegion, regionNamed, namesRegion, quadCount, quadrantName, otherQuadrant, quadrantNamed, givesName, sharesQuadrant, sharesName, referenceEnd, hasReference, referenceAt, passesBy, refersLine}
 
 module _ (fs : List (List ℕ)) (q : ℕ) where
   pub quadrant-read : (k : ℕ) → k ≡ cond (ltb q (quadrantCount fs)) (quadrantAt fs q) (length fs) → getD fs k [] ≡ quadrantName fs q
   unfolding quadrantName
   quadrant-read k e = rw e (go (decLt q (quadrantCount fs)))
     where
-      go : Dec (q < quadrantCount fs)
-          → getD fs (cond (ltb q (quadrantCount fs)) (quadrantAt fs q) (length fs)) [] ≡ cond (ltb q (quadrantCount fs)) (fieldAt fs (quadrantAt fs q)) []
+      go : Dec (q < quadrantCount fs) → getD fs (cond (ltb q (quadrantCount fs)) (quadrantAt fs q) (length fs)) []
+          ≡ cond (ltb q (quadrantCount fs)) (fieldAt fs (quadrantAt fs q)) []
       go (yes h) = rw (lt-ltb q (quadrantCount fs) h)
       go (no h) = rw (le-ltb q (quadrantCount fs) (omega arith)) (List·getD-eq-default fs [] {n = length fs} (omega arith))
 
   -- the name of a region
-  pub name-of-quadrant : isQuad (lineKind fs) ≡ true → quadrantName fs q ≡ regionName fs q
+  name-of-quadrant : isQuad (lineKind fs) ≡ true → quadrantName fs q ≡ regionName fs q
   unfolding quadrantName regionName regionCount
   name-of-quadrant h = rw h
-
-  pub name-of-gate : isQuad (lineKind fs) ≡ false → q < 1 → fieldAt fs 1 ≡ regionName fs q
-  unfolding regionName regionCount
-  name-of-gate h l = rw (h, lt-ltb q 1 l)
-
-  pub name-of-none : isQuad (lineKind fs) ≡ false → 1 ≤ q → _≡_ {A = List ℕ} [] (regionName fs q)
-  unfolding regionName regionCount
-  name-of-none h l = rw (h, le-ltb q 1 l)
 
   module _ (x : List ℕ) {y : List ℕ} {b : Bool} (s : b ≡ same x y) where
     pub region-here : y ≡ regionName fs q → b ≡ true → otherRegion fs x q ≡ false
@@ -47,18 +42,21 @@ module _ (fs : List (List ℕ)) (q : ℕ) where
     unfolding otherRegion
     region-other e t = rw (← e, ← s, t)
 
-    pub quadrant-here : y ≡ quadrantName fs q → b ≡ true → otherQuadrant fs x q ≡ false
-    unfolding otherQuadrant
-    quadrant-here e t = rw (← e, ← s, t)
-
-    pub quadrant-other : y ≡ quadrantName fs q → b ≡ false → otherQuadrant fs x q ≡ true
-    unfolding otherQuadrant
-    quadrant-other e t = rw (← e, ← s, t)
-
   -- a name of a quadrant that another line gives, or not
   pub shared-is : (gs : List (List ℕ)) {y : List ℕ} {b c : Bool} → y ≡ quadrantName fs q → b ≡ givesName gs y → b ≡ c → sharesQuadrant fs gs q ≡ c
   unfolding sharesQuadrant
   shared-is gs e s t = rw (← e, ← s, t)
+
+-- the quadrants of a quadrant gate are its regions; another gate has none
+pub quadrant-found : (fs : List (List ℕ)) (x : List ℕ) → cond (isQuad (lineKind fs)) (regionNamed fs x) 0 ≡ quadrantNamed fs x
+unfolding regionNamed quadrantNamed otherRegion otherQuadrant regionCount quadCount firstBad
+quadrant-found fs x = go (passed-or-failed (isQuad (lineKind fs)))
+  where
+    go : (isQuad (lineKind fs) ≡ true) ⊎ (isQuad (lineKind fs) ≡ false) → cond (isQuad (lineKind fs)) (regionNamed fs x) 0 ≡ quadrantNamed fs x
+    go (inl t) =
+        rw t (first-same (otherRegion fs x) (otherQuadrant fs x) 0 (quadrantCount fs)
+        (λ q _ l. ap (λ (y : List ℕ). not (same x y)) (sym (name-of-quadrant fs q t))))
+    go (inr t) = rw t
 
 -- field k names a region of another line, or not
 module _ (fs gs : List (List ℕ)) (k : ℕ) {y : List ℕ} {h n : Bool} (a : h ≡ hasReference fs k) (e : y ≡ referenceAt fs k) (s : n ≡ namesRegion gs y) where

@@ -56,15 +56,7 @@ pub fn names_region(line: &[u8], x: &[u8]) -> bool
 fn find_quadrant(line: &[u8], x: &[u8]) -> usize
     ensures { λ r. ⌜ r ≡ quadrantNamed (fields (now (line .entry))) (now (x .entry)) ⌝ }
 {
-    let n = quad_count(line);
-    let mut q = 0;
-    while q < n {
-        if same(x, quadrant_name(line, q)) {
-            return q;
-        }
-        q += 1;
-    }
-    q
+    pick(is_quad(kind_of(line)), find_region(line, x), 0)
 }
 
 // Whether a gate line gives a name to its gate or to a quadrant.

@@ -23,7 +23,8 @@ module _ (text starts : List ℕ) (n i : ℕ) (h : i < n) where
   references-read : gateReferences (nthGate (gatesAt text starts n) i) ≡ gateReferences (gateAt text starts i)
   references-read = ap gateReferences (gates-nth text starts n i h)
 
-  pub living-here : living (gatesAt text starts n) i ≡ true → (k : ℕ) → 2 ≤ k → k < referenceEnd (fieldsAt text starts i) → hasReference (fieldsAt text starts i) k ≡ true
+  pub living-here : living (gatesAt text starts n) i ≡ true → (k : ℕ) → 2 ≤ k → k < referenceEnd (fieldsAt text starts i)
+      → hasReference (fieldsAt text starts i) k ≡ true
       → isRegion (gatesAt text starts n) (referenceAt (fieldsAt text starts i) k) ≡ true
   unfolding living
   living-here t k l u a =
@@ -44,7 +45,8 @@ module _ (text starts : List ℕ) (n i : ℕ) (h : i < n) where
       sym (ap (isRegion (gatesAt text starts n)) (w .4)) ∙ f (w .0) (w .1) (w .2) (w .3))
 
 -- the test of field k
-module _ (text starts : List ℕ) (n i k : ℕ) {line : List ℕ} (l : line ≡ lineAt text starts i) {b : Bool} (a : b ≡ hasReference (fields line) k) {y : Name} (e : y ≡ referenceAt (fields line) k)
+module _ (text starts : List ℕ) (n i k : ℕ) {line : List ℕ} (l : line ≡ lineAt text starts i) {b : Bool} (a : b ≡ hasReference (fields line) k) {y : Name}
+    (e : y ≡ referenceAt (fields line) k)
     {total number : ℕ} (t : total ≡ length (regions (gatesAt text starts n))) (m : number ≡ numberOf (regions (gatesAt text starts n)) y) where
   has-read : b ≡ hasReference (fieldsAt text starts i) k
   unfolding fieldsAt
@@ -64,12 +66,14 @@ module _ (text starts : List ℕ) (n i k : ℕ) {line : List ℕ} (l : line ≡ 
   pub dead-region : (b && leb total number) ≡ true → isRegion (gatesAt text starts n) (referenceAt (fieldsAt text starts i) k) ≡ false
   dead-region o = region-read ∙ le-ltb number total (leb-true total number (and-right b (leb total number) o))
 
-  pub live-region : (b && leb total number) ≡ false → hasReference (fieldsAt text starts i) k ≡ true → isRegion (gatesAt text starts n) (referenceAt (fieldsAt text starts i) k) ≡ true
+  pub live-region : (b && leb total number) ≡ false → hasReference (fieldsAt text starts i) k ≡ true
+      → isRegion (gatesAt text starts n) (referenceAt (fieldsAt text starts i) k) ≡ true
   live-region o u = region-read ∙ lt-ltb number total (leb-false total number (second b (leb total number) (has-read ∙ u) o))
     where
       second : (x y : Bool) → x ≡ true → (x && y) ≡ false → y ≡ false
       second x y p q = rw p at q
 
-pub end-read : (text starts : List ℕ) (i : ℕ) {line : List ℕ} → line ≡ lineAt text starts i → {end : ℕ} → end ≡ referenceEnd (fields line) → end ≡ referenceEnd (fieldsAt text starts i)
+pub end-read : (text starts : List ℕ) (i : ℕ) {line : List ℕ} → line ≡ lineAt text starts i → {end : ℕ} → end ≡ referenceEnd (fields line)
+    → end ≡ referenceEnd (fieldsAt text starts i)
 unfolding fieldsAt
 end-read text starts i l e = rw (← l) e

@@ -43,7 +43,8 @@ module _ (text starts : List ℕ) (n : ℕ) (x : Name) (i : ℕ) (h : i < n) (ba
 
     pub number-passed : regionCount (fieldsAt text starts i) ≤ q
         → numberOf (regionsAt text starts n) x
-        ≡ firstBad (otherName (regionsAt text starts n) x) (base + regionCount (fieldsAt text starts i)) (length (regionsAt text starts n) - (base + regionCount (fieldsAt text starts i)))
+        ≡ firstBad (otherName (regionsAt text starts n) x) (base + regionCount (fieldsAt text starts i))
+        (length (regionsAt text starts n) - (base + regionCount (fieldsAt text starts i)))
     number-passed l =
         let m = regionCount (fieldsAt text starts i) in
         let fits = count-fits text starts n i h in
@@ -68,7 +69,8 @@ module _ (text starts : List ℕ) (n : ℕ) (x : Name) where
       let l : length (regionsAt text starts n) ≤ base = rw (s .passed, e) (omega arith) in
       sym (s .rest ∙ first-end (otherName (regionsAt text starts n) x) (length (regionsAt text starts n)) base l)
 
-  module _ (i : ℕ) (h : i < n) (base : ℕ) {line : List ℕ} (l : line ≡ lineAt text starts i) {m : ℕ} (c : m ≡ regionCount (fields line)) (s : Numbering text starts n x i base) where
+  module _ (i : ℕ) (h : i < n) (base : ℕ) {line : List ℕ} (l : line ≡ lineAt text starts i) {m : ℕ} (c : m ≡ regionCount (fields line))
+      (s : Numbering text starts n x i base) where
     count-read : m ≡ regionCount (fieldsAt text starts i)
     unfolding fieldsAt
     count-read = rw (← l) c

@@ -47,7 +47,8 @@ module _ (text starts : List ℕ) where
     pub gates-nth : nthGate (gatesAt text starts n) i ≡ gateAt i
     unfolding nthGate
     gates-nth =
-        sym (getD-take (suc i) (gatesAt text starts n) i noGate (omega arith)) ∙ ap (λ (l : List Gate). getD l i noGate) (gates-take n (suc i) (omega arith) ∙ gates-more i)
+        sym (getD-take (suc i) (gatesAt text starts n) i noGate (omega arith))
+        ∙ ap (λ (l : List Gate). getD l i noGate) (gates-take n (suc i) (omega arith) ∙ gates-more i)
         ∙ getD-at (gatesAt text starts i) (gateAt i) [] noGate i (gates-length i)
 
   -- ---- regions
@@ -78,7 +79,12 @@ module _ (text starts : List ℕ) where
     -- region q of gate i
     pub region-read : (q : ℕ) → q < regionCount (fieldsAt text starts i)
         → nthRegion (regions (gatesAt text starts n)) (length (regions (gatesAt text starts i)) + q)
-        ≡ record { name = regionName (fieldsAt text starts i) q; parent = parentOf (fieldAt (fieldsAt text starts i) 2); shape = regionShape (dimensions text) (fieldsAt text starts i) q }
+        ≡ record {
+          name = regionName (fieldsAt text starts i) q;
+          parent = parentOf (fieldAt (fieldsAt text starts i) 2);
+          shape =
+              regionShape (dimensions text) (fieldsAt text starts i) q;
+        }
     region-read q l =
         let g : nthGate (gatesAt text starts n) i ≡ gateAt i = gates-nth n i h in
         let k : q < length (gateRegions (nthGate (gatesAt text starts n) i)) = rw (g, region-count (dimensions text) (fieldsAt text starts i)) l in

@@ -84,7 +84,8 @@ module _ (text starts : List ℕ) (n gate quadrant region : ℕ) (s : Settled te
       (rw e (region-read text starts n gate h quadrant l)) parent-below
 
 -- a step of a settled table has at most 65,539 words
-pub step-short : (text starts : List ℕ) (n r : ℕ) → Settled text starts n → r < length (regionsAt text starts n) → length (stepWords (regionsAt text starts n) r) ≤ 65539
+pub step-short : (text starts : List ℕ) (n r : ℕ) → Settled text starts n → r < length (regionsAt text starts n)
+    → length (stepWords (regionsAt text starts n) r) ≤ 65539
 step-short text starts n r s h =
     let at = locatedAt text starts n r in
     let inside = gate-inside text starts n r {x = at} refl h in

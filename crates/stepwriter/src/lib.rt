@@ -42,7 +42,8 @@ fn put_combination_step(
     region: usize,
     parent: usize,
 ) -> usize
-    ensures { λ r. ⌜ Writes (stepBy (fields (now (line .entry))) region parent (operandAt (regionsAt (now (text .entry)) (starts .at) n) (fields (now (line .entry)))))
+    ensures { λ r. ⌜ Writes
+        (stepBy (fields (now (line .entry))) region parent (operandAt (regionsAt (now (text .entry)) (starts .at) n) (fields (now (line .entry)))))
         (now (rest .entry)) (now (rest .exit)) r ⌝ }
 {
     let m = body_length(line);
@@ -68,8 +69,8 @@ pub fn put_step(
     quadrant: usize,
     region: usize,
 ) -> usize
-    ensures { λ r. ⌜ Writes
-        (lineStep (dimensions (now (text .entry))) (regionsAt (now (text .entry)) (starts .at) n) (fieldsAt (now (text .entry)) (starts .at) gate) quadrant region)
+    ensures { λ r. ⌜ Writes (lineStep (dimensions (now (text .entry))) (regionsAt (now (text .entry)) (starts .at) n)
+        (fieldsAt (now (text .entry)) (starts .at) gate) quadrant region)
         (now (rest .entry)) (now (rest .exit)) r ⌝ }
 {
     let line = line_at(text, starts, gate);

@@ -20,7 +20,8 @@ use Rattle.tablecheck.specs.Inner.Names.{refersBy}
 use Rattle.resolve.proofs.ReadLaws.{gates-nth, gates-length}
 
 -- one row more
-pub row-set : (P : ℕ → ℕ → Type 0) (rows : List ℕ) (i row : ℕ) → i < length rows → ((a : ℕ) → a < i → P a (getD rows a 0)) → P i row → (a : ℕ) → a < i + 1 → P a (getD (set rows i row) a 0)
+pub row-set : (P : ℕ → ℕ → Type 0) (rows : List ℕ) (i row : ℕ) → i < length rows → ((a : ℕ) → a < i → P a (getD rows a 0)) → P i row → (a : ℕ) → a < i + 1
+    → P a (getD (set rows i row) a 0)
 row-set P rows i row h f g a l = go (decLt a i)
   where
     go : Dec (a < i) → P a (getD (set rows i row) a 0)
@@ -28,7 +29,8 @@ row-set P rows i row h f g a l = go (decLt a i)
     go (no u) = let e : a ≡ i = omega arith in rw (e, getD-set-same rows i row 0 h) g
 
 -- edges that agree below n reach the same below n
-reaches-same : (f g : ℕ → ℕ → Bool) (n : ℕ) → ((a b : ℕ) → a < n → b < n → f a b ≡ g a b) → (s : ℕ) → s ≤ n → (a b : ℕ) → a < n → b < n → reachesBy f s a b ≡ reachesBy g s a b
+reaches-same : (f g : ℕ → ℕ → Bool) (n : ℕ) → ((a b : ℕ) → a < n → b < n → f a b ≡ g a b) → (s : ℕ) → s ≤ n → (a b : ℕ) → a < n → b < n
+    → reachesBy f s a b ≡ reachesBy g s a b
 unfolding reachesBy
 reaches-same f g n e zero l a b h k = e a b h k
 reaches-same f g n e (suc s) l a b h k =
@@ -46,7 +48,8 @@ module _ (text starts : List ℕ) (n : ℕ) where
       refers-line (dimensions text) (fieldsAt text starts a) (fieldsAt text starts b)
       ∙ sym (ap₂ refersTo (gates-nth text starts n a h) (gates-nth text starts n b k))
 
-  circle-is : (edges rows : List ℕ) → ((a b : ℕ) → a < n → b < n → bitAt edges a b ≡ refersBy text starts a b) → ((a b : ℕ) → bitAt rows a b ≡ reachesBy (bitAt edges) n a b)
+  circle-is : (edges rows : List ℕ) → ((a b : ℕ) → a < n → b < n → bitAt edges a b ≡ refersBy text starts a b)
+      → ((a b : ℕ) → bitAt rows a b ≡ reachesBy (bitAt edges) n a b)
       → (i : ℕ) → i < n → {row : ℕ} → row ≡ getD rows i 0 → {b : Bool} → b ≡ hasBit row i → uncircled (gatesAt text starts n) i ≡ not b
   unfolding uncircled reachesItself bitAt
   circle-is edges rows e r i h {row} w {b} t =
@@ -56,6 +59,8 @@ module _ (text starts : List ℕ) (n : ℕ) where
       rw (gates-length text starts n) (ap not (sym (z ∙ k)))
 
   -- the first gate that reaches itself is the first row with its own bit
-  pub circles-are : (edges rows : List ℕ) → ((a b : ℕ) → a < n → b < n → bitAt edges a b ≡ refersBy text starts a b) → ((a b : ℕ) → bitAt rows a b ≡ reachesBy (bitAt edges) n a b)
+  pub circles-are : (edges rows : List ℕ) → ((a b : ℕ) → a < n → b < n → bitAt edges a b ≡ refersBy text starts a b)
+      → ((a b : ℕ) → bitAt rows a b ≡ reachesBy (bitAt edges) n a b)
       → firstBad (unlooped rows) 0 n ≡ firstBad (uncircled (gatesAt text starts n)) 0 n
-  circles-are edges rows e r = first-same (unlooped rows) (uncircled (gatesAt text starts n)) 0 n (λ i _ l. sym (circle-is edges rows e r i (omega arith) refl refl))
+  circles-are edges rows e r = first-same (unlooped rows) (uncircled (gatesAt text starts n)) 0 n
+      (λ i _ l. sym (circle-is edges rows e r i (omega arith) refl refl))

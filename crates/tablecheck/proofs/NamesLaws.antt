@@ -69,7 +69,8 @@ module _ (text starts : List ℕ) (x : Indexed text starts) where
     some-read : (i : ℕ) → i < 65 → i < length (gateLines text) → 1 ≤ regionCount (fieldsAt text starts i)
     unfolding fieldsAt lineGood refusalAt
     some-read i h l =
-        rw (x i h l) (regions-some (dimensions text) (fields (getD (gateLines text) i [])) (eqb-true (lineRefusal (dimensions text) (fields (getD (gateLines text) i []))) noRefusal (good i l)))
+        rw (x i h l) (regions-some (dimensions text) (fields (getD (gateLines text) i []))
+        (eqb-true (lineRefusal (dimensions text) (fields (getD (gateLines text) i []))) noRefusal (good i l)))
 
     regions-least : (n : ℕ) → n ≤ 65 → n ≤ length (gateLines text) → n ≤ length (regions (gatesAt text starts n))
     regions-least zero h l = omega arith
@@ -102,7 +103,8 @@ module _ (text starts : List ℕ) (x : Indexed text starts) where
             go : Dec (0 < n) → length (regions (gatesAt text starts n)) ≤ 64
             go (yes u) =
                 let z : suc (n - 1) ≡ n = omega arith in
-                let b : uncrowded (gatesAt text starts n) (n - 1) ≡ true = first-before (uncrowded (gatesAt text starts n)) 0 n (n - 1) (omega arith) (rw (← c) (omega arith)) in
+                let b : uncrowded (gatesAt text starts n) (n - 1) ≡ true =
+                first-before (uncrowded (gatesAt text starts n)) 0 n (n - 1) (omega arith) (rw (← c) (omega arith)) in
                 leb-true (length (regions (gatesAt text starts n))) 64
                 (ap (λ (k : ℕ). leb (length (regions (gatesAt text starts k))) 64) (sym z)
                 ∙ sym (ap (λ (t : List Gate). leb (length (regions t)) 64) (gates-up-to text starts n (n - 1) (omega arith))) ∙ b)

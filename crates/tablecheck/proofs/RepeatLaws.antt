@@ -47,7 +47,8 @@ module _ (text starts : List ℕ) where
   in-given zero n m = absurd (List·Memᴰ·not-nil m)
   in-given (suc i) n m = go (List·Memᴰ·append-cases (given (gatesAt text starts i)) (rw (given-more i) at m)) (in-given i n)
     where
-      go : (n ∈ given (gatesAt text starts i)) ⊎ (n ∈ ownNames (gateAt text starts i)) → (n ∈ given (gatesAt text starts i) → (j : ℕ) × (j < i) × (n ∈ ownNames (gateAt text starts j)))
+      go : (n ∈ given (gatesAt text starts i)) ⊎ (n ∈ ownNames (gateAt text starts i))
+          → (n ∈ given (gatesAt text starts i) → (j : ℕ) × (j < i) × (n ∈ ownNames (gateAt text starts j)))
           → (j : ℕ) × (j < suc i) × (n ∈ ownNames (gateAt text starts j))
       go (inl u) ih = let w = ih u in (w .0, omega (arith, w .1), w .2)
       go (inr u) ih = (i, omega arith, u)
@@ -56,14 +57,16 @@ module _ (text starts : List ℕ) where
   given-in zero j h n m = absurd (omega arith)
   given-in (suc i) j h n m = rw (given-more i) (go (decLt j i) (given-in i j))
     where
-      go : Dec (j < i) → (j < i → (k : Name) → k ∈ ownNames (gateAt text starts j) → k ∈ given (gatesAt text starts i)) → n ∈ (given (gatesAt text starts i) ++ ownNames (gateAt text starts i))
+      go : Dec (j < i) → (j < i → (k : Name) → k ∈ ownNames (gateAt text starts j) → k ∈ given (gatesAt text starts i))
+          → n ∈ (given (gatesAt text starts i) ++ ownNames (gateAt text starts i))
       go (yes l) ih = Memᴰ·append-left (ownNames (gateAt text starts i)) (ih l n m)
       go (no l) ih = let e : j ≡ i = omega arith in Memᴰ·append-right (given (gatesAt text starts i)) (rw e at m)
 
   shares-found : (i j : ℕ) → sharesAt text starts i j ≡ true → (n : Name) × (n ∈ ownNames (gateAt text starts i)) × (n ∈ ownNames (gateAt text starts j))
   unfolding sharesAt
   shares-found i j e =
-      let w = some-found (isIn (ownNames (gateAt text starts j))) (ownNames (gateAt text starts i)) (sym (shares-name (dimensions text) (fieldsAt text starts i) (fieldsAt text starts j)) ∙ e) in
+      let w = some-found (isIn (ownNames (gateAt text starts j))) (ownNames (gateAt text starts i))
+      (sym (shares-name (dimensions text) (fieldsAt text starts i) (fieldsAt text starts j)) ∙ e) in
       (w .0, w .1, list-in (w .0) (ownNames (gateAt text starts j)) (w .2))
 
   found-shares : (i j : ℕ) (n : Name) → n ∈ ownNames (gateAt text starts i) → n ∈ ownNames (gateAt text starts j) → sharesAt text starts i j ≡ true
@@ -74,7 +77,8 @@ module _ (text starts : List ℕ) where
   module _ (n i : ℕ) (h : i < n) (d : different (given (gatesAt text starts i)) ≡ true) where
     pub unrepeated-is : unrepeated (gatesAt text starts n) i ≡ not (repeatsAt text starts i)
     unfolding unrepeated repeatsAt
-    unrepeated-is = ap different listed ∙ both-ways (different (before ++ own)) (not (not (ownDifferent (fieldsAt text starts i)) || any (sharesAt text starts i) i)) there back
+    unrepeated-is = ap different listed ∙ both-ways (different (before ++ own))
+        (not (not (ownDifferent (fieldsAt text starts i)) || any (sharesAt text starts i) i)) there back
       where
         before : List Name
         before = given (gatesAt text starts i)
@@ -133,6 +137,7 @@ module _ (text starts : List ℕ) where
     unfolding fieldsAt
     own-read e = rw (← l) e
 
-    pub shares-read : (j : ℕ) {other : List ℕ} → other ≡ lineAt text starts j → {b : Bool} → b ≡ sharesName (fields line) (fields other) → b ≡ sharesAt text starts i j
+    pub shares-read : (j : ℕ) {other : List ℕ} → other ≡ lineAt text starts j → {b : Bool} → b ≡ sharesName (fields line) (fields other)
+        → b ≡ sharesAt text starts i j
     unfolding sharesAt fieldsAt
     shares-read j o e = rw (← l, ← o) e

@@ -99,7 +99,8 @@ module _ (rs : List Region) (fs : List (List ℕ)) where
     unfolding hasReference referenceAt parentOf
     gathered-more = rw (lt-ltb 2 (k + 1) (omega arith)) (go (decLt 2 k))
       where
-        parent : (c : Bool) → cond (not (true && c)) (withBit 0 (numberOf rs (fieldAt fs 2))) 0 ≡ withNumbers rs 0 (parentNames (cond c none (some (fieldAt fs 2))) ++ [])
+        parent : (c : Bool) → cond (not (true && c)) (withBit 0 (numberOf rs (fieldAt fs 2))) 0
+            ≡ withNumbers rs 0 (parentNames (cond c none (some (fieldAt fs 2))) ++ [])
         parent true = refl
         parent false = refl
 
@@ -110,7 +111,8 @@ module _ (rs : List Region) (fs : List (List ℕ)) where
             let names = parentNames (parentOf (fieldAt fs 2)) in
             let held : row ≡ withNumbers rs 0 (names ++ tab (λ j. operandName (fieldAt fs (3 + j))) (k - 3)) = g ∙ rw (lt-ltb 2 k h) in
             put ∙ rw (ne-eqb k 2 (λ e. omega arith), held, z)
-            (sym (ap (withNumbers rs 0) (sym (append-assoc names (tab (λ j. operandName (fieldAt fs (3 + j))) (k - 3)) (operandName (fieldAt fs (3 + (k - 3))) ∷ [])))
+            (sym (ap (withNumbers rs 0)
+            (sym (append-assoc names (tab (λ j. operandName (fieldAt fs (3 + j))) (k - 3)) (operandName (fieldAt fs (3 + (k - 3))) ∷ [])))
             ∙ with-last rs 0 (names ++ tab (λ j. operandName (fieldAt fs (3 + j))) (k - 3)) (operandName (fieldAt fs (3 + (k - 3)))) ∙ rw u))
         go (no h) =
             let z : k ≡ 2 = omega arith in
@@ -119,7 +121,8 @@ module _ (rs : List Region) (fs : List (List ℕ)) where
             put ∙ rw (eq-eqb k 2 z, held, u) (parent (isNone (fieldAt fs 2)))
 
 -- after the last field
-pub gathered-all : (text starts : List ℕ) (n r : ℕ) {x : Located} → x ≡ locatedAt text starts n r → x .gate < n → {line : List ℕ} → line ≡ lineAt text starts (x .gate)
+pub gathered-all : (text starts : List ℕ) (n r : ℕ) {x : Located} → x ≡ locatedAt text starts n r → x .gate < n → {line : List ℕ}
+    → line ≡ lineAt text starts (x .gate)
     → {end : ℕ} → (end ≡ referenceEnd (fields line)) × (3 ≤ end) → (k row : ℕ) → k ≡ end → Gathered (regionsAt text starts n) (fields line) k row
     → row ≡ rowOf (regionsAt text starts n) r
 unfolding rowOf fieldsAt
@@ -161,7 +164,8 @@ with-numbers rs k (x ∷ l) h set =
     or-or false = refl
 
 module _ (text starts : List ℕ) (n : ℕ) (s : Settled text starts n) where
-  alive-at : (r : ℕ) → r < length (regionsAt text starts n) → (x : Name) → x ∈ references (nthRegion (regionsAt text starts n) r) → numberOf (regionsAt text starts n) x < 64
+  alive-at : (r : ℕ) → r < length (regionsAt text starts n) → (x : Name) → x ∈ references (nthRegion (regionsAt text starts n) r)
+      → numberOf (regionsAt text starts n) x < 64
   unfolding living isRegion
   alive-at r h x m =
       let at = locatedAt text starts n r in

@@ -40,7 +40,7 @@ pub fn locate(text: &[u8], starts: Starts, n: usize, r: usize) -> Located
         i += 1;
     }
     Located {
-        gate: i,
+        gate: n,
         quadrant: left,
     }
 }
@@ -63,11 +63,11 @@ fn region_row(text: &[u8], starts: Starts, n: usize, r: usize) -> u64
     ensures { λ x. ⌜ x ≡ rowOf (regionsAt (now (text .entry)) (starts .at) n) r ⌝ }
 {
     let at = locate(text, starts, n, r);
-    let gate = at.gate;
-    if n <= gate {
+    let own = at.gate;
+    if n <= own {
         return 0;
     }
-    let line = line_at(text, starts, gate);
+    let line = line_at(text, starts, own);
     let end = reference_end(line);
     let mut row = 0u64;
     let mut k = 2;

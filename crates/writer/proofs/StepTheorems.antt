@@ -58,7 +58,8 @@ module _ (rs : List Region) (x : List ℕ) where
 
 -- ---- by the kind of an accepted line
 
-kind-in : (head : List (List ℕ)) (kind : LineKind) (fs : List (List ℕ)) (q : ℕ) → isUnknown kind ≡ false → stepNumber kind ≡ kindNumber (shapeKind (lineShape head kind fs q))
+kind-in : (head : List (List ℕ)) (kind : LineKind) (fs : List (List ℕ)) (q : ℕ) → isUnknown kind ≡ false
+    → stepNumber kind ≡ kindNumber (shapeKind (lineShape head kind fs q))
 kind-in head Rect fs q u = refl
 kind-in head Poly fs q u = refl
 kind-in head Ellip fs q u = refl
@@ -76,7 +77,8 @@ span-by-high : (s lo hi m : ℕ) → spansBy s lo hi m ≡ true → m ≤ hi
 unfolding spansBy
 span-by-high s lo hi m e = span-high lo hi m (and-left (spans lo hi m) (eqb (m % s) 0) e)
 
-length-in : (head : List (List ℕ)) (kind : LineKind) (fs : List (List ℕ)) → Accepted head kind fs → cond (isQuad kind) (3 * dividerCount fs) (length fs - 3) ≤ 65535
+length-in : (head : List (List ℕ)) (kind : LineKind) (fs : List (List ℕ)) → Accepted head kind fs
+    → cond (isQuad kind) (3 * dividerCount fs) (length fs - 3) ≤ 65535
 length-in head Rect fs a = omega (arith, span-by-high 3 3 24 (length fs - 3) (a .shape))
 length-in head Poly fs a = omega (arith, span-by-high 2 8 514 (length fs - 3) (a .shape))
 length-in head Ellip fs a = omega (arith, eqb-true (length fs - 3) 8 (a .shape))
@@ -147,7 +149,8 @@ module _ (rs : List Region) (few : length rs ≤ 64) (r : ℕ) (below : r < leng
   operand-same j =
       let x = fieldAt fs (3 + j) in
       let m : min 64 (numberOf rs (operandName x)) ≡ numberOf rs (operandName x) = omega (arith, number-few rs (operandName x)) in
-      sym (rw m (number-kept (2 * numberOf rs (operandName x) + cond (isComplement x) 1 0) (omega (arith, number-few rs (operandName x), bit (isComplement x)))))
+      sym (rw m (number-kept (2 * numberOf rs (operandName x) + cond (isComplement x) 1 0)
+      (omega (arith, number-few rs (operandName x), bit (isComplement x)))))
     where
       bit : (b : Bool) → cond b 1 0 ≤ 1
       bit true = omega arith

@@ -91,7 +91,8 @@ unfolding header
 step-begun k r p m d x e = e ∙ sym (step-again k r p m [] d x e)
 
 -- one word more of the body
-pub step-more : (k r p m : ℕ) (f : ℕ → ℤ) (d : List ℤ) (j : ℕ) → set (over (header k r p m ++ tab f j) d) (4 + j) (f j) ≡ over (header k r p m ++ tab f (j + 1)) d
+pub step-more : (k r p m : ℕ) (f : ℕ → ℤ) (d : List ℤ) (j : ℕ)
+    → set (over (header k r p m ++ tab f j) d) (4 + j) (f j) ≡ over (header k r p m ++ tab f (j + 1)) d
 unfolding header
 step-more k r p m f d j =
     over-more-at (header k r p m ++ tab f j) d (4 + j) (f j) (omega (arith, length-tab f j)) ∙ rw add-one

@@ -121,7 +121,8 @@ pub fn put_leaf_step(
     region: usize,
     parent: usize,
 ) -> usize
-    ensures { λ r. ⌜ Writes (stepBy (fields (now (line .entry))) region parent (bodyWordOf (drop 1 (fields (now (head .entry)))) (fields (now (line .entry))) q))
+    ensures { λ r. ⌜ Writes
+        (stepBy (fields (now (line .entry))) region parent (bodyWordOf (drop 1 (fields (now (head .entry)))) (fields (now (line .entry))) q))
         (now (rest .entry)) (now (rest .exit)) r ⌝ }
 {
     put_header(rest, step_number(line), region, parent, body_length(line));

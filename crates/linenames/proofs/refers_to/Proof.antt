@@ -12,7 +12,8 @@ use Rattle.linenames.proofs.refers_to.Statement.{statement}
 use Rattle.linenames.proofs.refers_to.Tie as tie
 
 abbrev Inv-loop : tie.InvT-loop
-Inv-loop line other end k₀ k = (2 ≤ k) × (k ≤ end) × (firstBad (passesBy (fields line) (fields other)) 2 (end - 2) ≡ firstBad (passesBy (fields line) (fields other)) k (end - k))
+Inv-loop line other end k₀ k =
+    (2 ≤ k) × (k ≤ end) × (firstBad (passesBy (fields line) (fields other)) 2 (end - 2) ≡ firstBad (passesBy (fields line) (fields other)) k (end - k))
 
 abbrev μ-loop : tie.MeasureT-loop
 μ-loop line other end k₀ k = end - k

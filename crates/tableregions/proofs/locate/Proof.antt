@@ -7,6 +7,7 @@ use Rattle.plans.proofs.IndexLaws.{first-more, first-stop, first-end}
 use borrow.Author.Needs.{needs}
 use lib.ListN.{length}
 use native.Mathlib.Nat.{sub-zero}
+use native.Mathlib.Omega.{arith}
 use Prim.Native.Nat.{_+_, _-_, _≤_}
 use mathlib.Core.Path.{_≡_, _∙_}
 use Rattle.tableregions.proofs.locate.Statement.{statement}
@@ -59,8 +60,11 @@ returns-2 c =
     let s = entry .args .starts .at in
     let r = entry .args .r in
     let head = c .before .loop in
-    located-as t s (entry .args .n) r (head .i) (head .left)
-    (head .inv .2 ∙ first-end (endsBefore t s r) (entry .args .n) (head .i) (c .loop-test .left)) (head .inv .0)
+    let whole = c .loop-test .left in
+    let inside = head .inv .1 in
+    let end : head .i ≡ entry .args .n = omega arith in
+    located-as t s (entry .args .n) r (entry .args .n) (head .left)
+    (head .inv .2 ∙ first-end (endsBefore t s r) (entry .args .n) (head .i) (c .loop-test .left) ∙ end) (rw end at (head .inv .0))
 
 pub locate-spec : {M : Type 1} → statement M
 locate-spec =

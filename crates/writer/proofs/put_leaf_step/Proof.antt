@@ -40,8 +40,10 @@ returns-2 c =
     let entry = c .before .before .before .before .before .before .before .before .before .before .before in
     let a = entry .args in
     let fs = fields (a .line .now) in
-    let word = bodyWordOf (drop 1 (fields (a .head .now))) fs (a .q) in
-    (omega (arith, step-length fs (a .region) (a .parent) word, length-tab word (bodyLength fs)), step-joined _ _ _ _ _ _ _ w _ (omega arith) (l .put-leaf .ensures .1))
+    let word = bodyWordOf (drop 1 (fields (a .head .now))) fs (a .q) in (
+      omega (arith, step-length fs (a .region) (a .parent) word, length-tab word (bodyLength fs)),
+      step-joined _ _ _ _ _ _ _ w _ (omega arith) (l .put-leaf .ensures .1),
+    )
 
 pub put-leaf-step-spec : {M : Type 1} → statement M
 put-leaf-step-spec =

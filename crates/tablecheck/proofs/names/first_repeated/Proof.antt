@@ -14,7 +14,8 @@ use Rattle.tablecheck.proofs.names.first_repeated.Statement.{statement}
 use Rattle.tablecheck.proofs.names.first_repeated.Tie as tie
 
 abbrev Inv-loop : tie.InvT-loop
-Inv-loop text starts n i₀ i = (i ≤ n) × (different (given (gatesAt text (starts .at) i)) ≡ true) × (firstBad (unrepeated (gatesAt text (starts .at) n)) 0 n ≡ firstBad (unrepeated (gatesAt text (starts .at) n)) i (n - i))
+Inv-loop text starts n i₀ i = (i ≤ n) × (different (given (gatesAt text (starts .at) i)) ≡ true) ×
+    (firstBad (unrepeated (gatesAt text (starts .at) n)) 0 n ≡ firstBad (unrepeated (gatesAt text (starts .at) n)) i (n - i))
 
 abbrev μ-loop : tie.MeasureT-loop
 μ-loop text starts n i₀ i = n - i
