@@ -25,8 +25,10 @@ module _ (n : ℕ) (rs : List Region) (narrow : n ≤ 8) (few : length rs ≤ 64
   unfolding planWords
   plan-length e = omega (arith, e)
 
-  pub plan-put : (d : List ℤ) {m : ℕ} → m ≡ n → {w : List ℤ} → w ≡ set d 0 (numberWord m) → {total : ℕ} → total ≡ length rs → {x : List ℤ} → x ≡ set w 1 (numberWord total) → {b : ℕ} → b ≡ min 2 (length x)
-      → {y : List ℤ} → y ≡ over (stepsWords rs (order rs)) (take (length x - b) (drop b x)) → take b x ++ (y ++ drop (length x - b) (drop b x)) ≡ over (planWords n rs) d
+  pub plan-put : (d : List ℤ) {m : ℕ} → m ≡ n → {w : List ℤ} → w ≡ set d 0 (numberWord m) → {total : ℕ} → total ≡ length rs → {x : List ℤ}
+      → x ≡ set w 1 (numberWord total) → {b : ℕ} → b ≡ min 2 (length x)
+      → {y : List ℤ} → y ≡ over (stepsWords rs (order rs)) (take (length x - b) (drop b x))
+      → take b x ++ (y ++ drop (length x - b) (drop b x)) ≡ over (planWords n rs) d
   unfolding planWords
   plan-put d i j k {x} e {b} f {y} g =
       let w : x ≡ over (pos n ∷ pos (length rs) ∷ []) d =
@@ -37,13 +39,3 @@ module _ (n : ℕ) (rs : List Region) (narrow : n ≤ 8) (few : length rs ≤ 64
 pub dims-read : (text : List ℕ) {head : List ℕ} → head ≡ getD (lines text) 0 [] → {n : ℕ} → n ≡ length (drop 1 (fields head)) → n ≡ length (dimensions text)
 unfolding dimensions headFields
 dims-read text e f = rw (← e) f
-
--- over an empty slice nothing is written
-pub none-put : (p d : List ℤ) {x : List ℤ} → x ≡ over p [] → x ++ d ≡ d
-unfolding over
-none-put [] d e = rw e
-none-put (a ∷ p) d e = rw e
-
--- what is written after measuring
-pub put-after : {p q : List ℤ} → p ≡ q → (d : List ℤ) {x y : List ℤ} → x ≡ over p [] → y ≡ over p (x ++ d) → y ≡ over q d
-put-after {p} e d f g = g ∙ rw (none-put p d f, e)
