@@ -39,13 +39,3 @@ module _ (n : ℕ) (rs : List Region) (narrow : n ≤ 8) (few : length rs ≤ 64
 pub dims-read : (text : List ℕ) {head : List ℕ} → head ≡ getD (lines text) 0 [] → {n : ℕ} → n ≡ length (drop 1 (fields head)) → n ≡ length (dimensions text)
 unfolding dimensions headFields
 dims-read text e f = rw (← e) f
-
--- over an empty slice nothing is written
-pub none-put : (p d : List ℤ) {x : List ℤ} → x ≡ over p [] → x ++ d ≡ d
-unfolding over
-none-put [] d e = rw e
-none-put (a ∷ p) d e = rw e
-
--- what is written after measuring
-pub put-after : {p q : List ℤ} → p ≡ q → (d : List ℤ) {x y : List ℤ} → x ≡ over p [] → y ≡ over p (x ++ d) → y ≡ over q d
-put-after {p} e d f g = g ∙ rw (none-put p d f, e)

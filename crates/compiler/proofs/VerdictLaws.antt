@@ -34,8 +34,8 @@ named-cond false v w h k = k
 
 unless-line-named : (number : ℕ → ℕ) (good : ℕ → Bool) (k : ℕ) (v : Verdict) → ((i : ℕ) → 1 ≤ number i) → 1 ≤ v .number → 1 ≤ unlessLine number good k v .number
 unfolding unlessLine
-unless-line-named number good k v h l = named-cond (ltb (firstBad good 0 k) k) (refused (number (firstBad good 0 k)) (firstBad good 0 k + 2)) v
-    (h (firstBad good 0 k)) l
+unless-line-named number good k v h l =
+    named-cond (ltb (firstBad good 0 k) k) (refused (number (firstBad good 0 k)) (firstBad good 0 k + 2)) v (h (firstBad good 0 k)) l
 
 text-named : (text : List ℕ) (v : Verdict) → 1 ≤ v .number → 1 ≤ textVerdict text v .number
 unfolding textVerdict linesVerdict namesVerdict refusalAt
@@ -94,47 +94,63 @@ number-accepted slice text e = passed-accepted slice text (verdict-numbered slic
 
 -- ---- refused by 1 to 16
 
-module _ (text : List ℕ) (slice : List ℤ) where
-  pub refused-16 : (number place : ℕ) → ((v : Verdict) → refused number place ≡ textVerdict text v)
-      → uncompiled slice (refused number place) ≡ compileOf text slice
-  unfolding compileOf
+module _ (text : List ℕ) (room : ℕ) where
+  -- a verdict of the table that refuses it
+  abbrev pub Refuses : Verdict → Type 0
+  Refuses v = (v ≡ tableVerdict room text) × (false ≡ eqb (tableVerdict room text .number) 0)
+
+  refuses : (number place : ℕ) → refused number place ≡ tableVerdict room text → 1 ≤ number → Refuses (refused number place)
+  refuses number place e h = (e, rw (← e) (sym (ne-eqb number 0 (λ z. omega arith))))
+
+  refused-16 : (number place : ℕ) → ((v : Verdict) → refused number place ≡ textVerdict text v) → Refuses (refused number place)
   refused-16 number place h =
       let n : 1 ≤ number = rw (← h (refused 1 0)) at (text-named text (refused 1 0) (omega arith)) in
-      let z : eqb number 0 ≡ false = ne-eqb number 0 (λ e. omega arith) in
-      let e : tableVerdict (length slice) text ≡ refused number place = table-verdict (length slice) text ∙ sym (h _) in
-      rw (e, z)
+      refuses number place (h _ ∙ sym (table-verdict room text)) n
 
   -- ---- 17, 18, and none
 
   module _ (u : Unrefused text) where
-    by-size : tableVerdict (length slice) text ≡ sizeVerdict (length slice) (length (planOf text))
+    by-size : tableVerdict room text ≡ sizeVerdict room (length (planOf text))
     unfolding planOf
-    by-size = table-verdict (length slice) text ∙ sym (u _)
+    by-size = table-verdict room text ∙ sym (u _)
 
-    pub refused-17 : 4096 < length (planOf text) → uncompiled slice (refused 17 0) ≡ compileOf text slice
-    unfolding compileOf sizeVerdict
-    refused-17 h = rw (by-size, lt-ltb 4096 (length (planOf text)) h)
+    pub refused-17 : 4096 < length (planOf text) → Refuses (refused 17 0)
+    unfolding sizeVerdict
+    refused-17 h = refuses 17 0 (rw (by-size, lt-ltb 4096 (length (planOf text)) h)) (omega arith)
 
     module _ (h : length (planOf text) ≤ 4096) where
-      pub refused-18 : length slice < length (planOf text) → uncompiled slice (refused 18 0) ≡ compileOf text slice
-      unfolding compileOf sizeVerdict
-      refused-18 l = rw (by-size, le-ltb 4096 (length (planOf text)) h, lt-ltb (length slice) (length (planOf text)) l)
+      pub refused-18 : room < length (planOf text) → Refuses (refused 18 0)
+      unfolding sizeVerdict
+      refused-18 l = refuses 18 0 (rw (by-size, le-ltb 4096 (length (planOf text)) h, lt-ltb room (length (planOf text)) l)) (omega arith)
 
-      pub written : length (planOf text) ≤ length slice → {words : ℕ} → words ≡ length (planOf text) → {number : ℕ} → number ≡ length (regions (gates text))
-          → {after : List ℤ} → after ≡ over (planOf text) slice
-          → _≡_ {A = Compiling} (record { verdict = passed; words = words; regions = number; slice = after }) (compileOf text slice)
-      unfolding compileOf sizeVerdict
-      written l e f g = rw (by-size, le-ltb 4096 (length (planOf text)) h, le-ltb (length slice) (length (planOf text)) l, e, f, g)
+      pub accepted : length (planOf text) ≤ room → (passed ≡ tableVerdict room text) × (true ≡ eqb (tableVerdict room text .number) 0)
+      unfolding sizeVerdict
+      accepted l =
+          let e : passed ≡ tableVerdict room text = rw (by-size, le-ltb 4096 (length (planOf text)) h, le-ltb room (length (planOf text)) l) in
+          (e, rw (← e))
 
 -- ---- by the answer of the check
 
-module _ (text : List ℕ) (slice : List ℤ) {a : Answer} (h : (v : Verdict) → answered a v ≡ textVerdict text v) where
-  pub refused-as : {x : Answer} → a ≡ x → (number place : ℕ) → ((v : Verdict) → answered x v ≡ refused number place)
-      → uncompiled slice (refused number place) ≡ compileOf text slice
-  refused-as e number place f = refused-16 text slice number place (λ v. sym (f v) ∙ ap (λ (y : Answer). answered y v) (sym e) ∙ h v)
+module _ (text : List ℕ) (room : ℕ) {a : Answer} (h : (v : Verdict) → answered a v ≡ textVerdict text v) where
+  pub refused-as : {x : Answer} → a ≡ x → (number place : ℕ) → ((v : Verdict) → answered x v ≡ refused number place) → Refuses text room (refused number place)
+  refused-as e number place f = refused-16 text room number place (λ v. sym (f v) ∙ ap (λ (y : Answer). answered y v) (sym e) ∙ h v)
 
   pub unrefused-as : a ≡ Fine → Unrefused text
   unrefused-as e v = ap (λ (y : Answer). answered y v) (sym e) ∙ h v
+
+-- ---- what compiling answers by the verdict
+
+module _ (text : List ℕ) (slice : List ℤ) where
+  pub compile-refused : {v : Verdict} → Refuses text (length slice) v → uncompiled slice v ≡ compileOf text slice
+  unfolding compileOf
+  compile-refused r = rw (r .0, ← r .1)
+
+  pub compile-written : tableVerdict (length slice) text ≡ passed → {words : ℕ} → words ≡ length (planOf text) → {number : ℕ}
+      → number ≡ length (regions (gates text))
+      → {after : List ℤ} → after ≡ over (planOf text) slice
+      → _≡_ {A = Compiling} (record { verdict = passed; words = words; regions = number; slice = after }) (compileOf text slice)
+  unfolding compileOf
+  compile-written e f g h = rw (e, f, g, h)
 
 -- ---- the words written are words of the slice
 

@@ -1,14 +1,14 @@
 -- Refusals of a table by number and place, and what compiling answers.
-use mathlib.Core.Path.{_≡_}
+use mathlib.Core.Bool.{Bool, true, false}
 use mathlib.Core.List.{List}
-use Prim.Native.Nat.{ℕ}
 use lib.IntN.{ℤ}
 use Rattle.plans.specs.Refusals.{Verdict, passed, refused}
 use Rattle.gates.specs.LineRefusals.{lineNumber}
 use Rattle.tables.specs.Compile.{Compiling, uncompiled}
-use Rattle.tablecheck.specs.Inner.TextVerdict.{textVerdict}
 use Rattle.compiler.specs.declared.Refusal.{Refusal}
 use Rattle.compiler.specs.declared.Refusal.the-variants.{LongTable, OpenLine, BadHead, BadLine, Crowded, TwinName, DeadReference, Circle, LongPlan, ShortSlice}
+use Rattle.compiler.specs.declared.Acceptance.{Acceptance}
+use Rattle.compiler.specs.declared.Acceptance.the-variants.{Accepted, Refused as Unaccepted}
 use Rattle.compiler.specs.declared.Compiled.{Compiled}
 use Rattle.compiler.specs.declared.Compiled.the-variants.{Written, Refused}
 
@@ -24,6 +24,15 @@ tableRefusal (DeadReference line) = refused 15 line
 tableRefusal (Circle line) = refused 16 line
 tableRefusal LongPlan = refused 17 0
 tableRefusal ShortSlice = refused 18 0
+
+-- what a table's verdict says
+abbrev pub acceptance : Acceptance → Verdict
+acceptance Accepted = passed
+acceptance (Unaccepted r) = tableRefusal r
+
+abbrev pub accepts : Acceptance → Bool
+accepts Accepted = true
+accepts (Unaccepted r) = false
 
 -- what an answer says, with the slice afterwards
 abbrev pub compiling : Compiled → List ℤ → Compiling

@@ -2,15 +2,18 @@
 ghost use mathlib.Core.Path.{_≡_};
 ghost use Prim.Native.Nat.{_≤_, _<_};
 ghost use lib.ListN.{length};
+ghost use lib.Dec.{eqb};
+ghost use Rattle.plans.specs.Refusals.{passed};
 ghost use Rattle.text.specs.Output.{Writes};
 ghost use Rattle.text.specs.Inner.Writing.{WritesFrom};
 ghost use Rattle.gates.specs.LineRefusals.{lineNumber};
 ghost use Rattle.tables.specs.Head.{dimensions};
 ghost use Rattle.tables.specs.Steps.{order, stepWords, stepsWords, planWords};
+ghost use Rattle.tables.specs.Refusals.{tableVerdict};
 ghost use Rattle.tables.specs.Compile.{compileOf};
 ghost use Rattle.resolve.specs.Inner.Reading.{regionsAt};
 ghost use Rattle.tableregions.specs.Inner.Settled.{Settled};
-ghost use Rattle.compiler.specs.Answers.{tableRefusal, compiling};
+ghost use Rattle.compiler.specs.Answers.{tableRefusal, acceptance, accepts, compiling};
 ghost use Rattle.compiler.specs.Inner.Unrefused.{Unrefused};
 use gatefields::fields::minus;
 use gatefields::fields::name_count;
@@ -42,6 +45,12 @@ pub enum Refusal {
     Circle { line: usize },
     LongPlan,
     ShortSlice,
+}
+
+// Whether a table is accepted, or its refusal.
+pub enum Acceptance {
+    Accepted,
+    Refused(Refusal),
 }
 
 // What compiling answers: the words and regions written, or the refusal.
@@ -158,42 +167,66 @@ fn put_plan(plan: &mut [i32], text: &[u8], starts: Starts, n: usize) -> usize
     2 + put_steps(&mut plan[b..], text, starts, n, total)
 }
 
-// Compiles a table to which none of refusals 1 to 16 applies. The plan is measured before a word of the slice is written.
-fn compile_checked(table: &[u8], plan: &mut [i32]) -> Compiled
+// 17 and 18 of a table to which none of refusals 1 to 16 applies: its plan is measured by writing over next to nothing, and no slice is needed.
+fn measured(table: &[u8], room: usize) -> Acceptance
     requires { ⌜ Unrefused (now table) ⌝ }
+    ensures { λ r. ⌜ acceptance r ≡ tableVerdict room (now (table .entry)) ⌝ }
+    ensures { λ r. ⌜ accepts r ≡ eqb (tableVerdict room (now (table .entry)) .number) 0 ⌝ }
+{
+    let starts = starts_of(table);
+    let lines = starts.lines;
+    let n = minus(lines, 1);
+    let mut word = [0i32; 1];
+    let words = put_plan(&mut word, table, starts, n);
+    if 4096 < words {
+        return Acceptance::Refused(Refusal::LongPlan);
+    }
+    if room < words {
+        return Acceptance::Refused(Refusal::ShortSlice);
+    }
+    Acceptance::Accepted
+}
+
+// The refusal of 1 to 18 of a table for a slice of that many words, if there is one. Nothing is written.
+pub fn table_verdict(table: &[u8], room: usize) -> Acceptance
+    ensures { λ r. ⌜ acceptance r ≡ tableVerdict room (now (table .entry)) ⌝ }
+    ensures { λ r. ⌜ accepts r ≡ eqb (tableVerdict room (now (table .entry)) .number) 0 ⌝ }
+{
+    let answer = check_table(table);
+    match answer {
+        Answer::Long => Acceptance::Refused(Refusal::LongTable),
+        Answer::Unended => Acceptance::Refused(Refusal::OpenLine),
+        Answer::BadHead => Acceptance::Refused(Refusal::BadHead),
+        Answer::BadLine { refusal, line } => Acceptance::Refused(Refusal::BadLine { refusal, line }),
+        Answer::Crowded { line } => Acceptance::Refused(Refusal::Crowded { line }),
+        Answer::Repeated { line } => Acceptance::Refused(Refusal::TwinName { line }),
+        Answer::Dead { line } => Acceptance::Refused(Refusal::DeadReference { line }),
+        Answer::Circled { line } => Acceptance::Refused(Refusal::Circle { line }),
+        Answer::Fine => measured(table, room),
+    }
+}
+
+// Compiles a table whose plan fits.
+fn compile_accepted(table: &[u8], plan: &mut [i32]) -> Compiled
+    requires { ⌜ tableVerdict (length (now plan)) (now table) ≡ passed ⌝ }
     ensures { λ r. ⌜ compiling r (now (plan .exit)) ≡ compileOf (now (table .entry)) (now (plan .entry)) ⌝ }
 {
     let starts = starts_of(table);
     let lines = starts.lines;
     let n = minus(lines, 1);
-    let none = 0;
-    let words = put_plan(&mut plan[..none], table, starts, n);
-    if 4096 < words {
-        return Compiled::Refused(Refusal::LongPlan);
-    }
-    if plan.len() < words {
-        return Compiled::Refused(Refusal::ShortSlice);
-    }
-    put_plan(plan, table, starts, n);
+    let words = put_plan(plan, table, starts, n);
     let regions = region_total(table, starts, n);
     Compiled::Written { words, regions }
 }
 
-// Compiles a table: writes its plan over the beginning of a slice, and answers the words and regions written, or the refusal of 1 to 18, the slice then
-// unchanged.
+// Compiles a table: writes its plan over the beginning of a slice, and answers the words and regions written, or the refusal of 1 to 18, the slice
+// then unchanged.
 pub fn compile(table: &[u8], plan: &mut [i32]) -> Compiled
     ensures { λ r. ⌜ compiling r (now (plan .exit)) ≡ compileOf (now (table .entry)) (now (plan .entry)) ⌝ }
 {
-    let answer = check_table(table);
-    match answer {
-        Answer::Long => Compiled::Refused(Refusal::LongTable),
-        Answer::Unended => Compiled::Refused(Refusal::OpenLine),
-        Answer::BadHead => Compiled::Refused(Refusal::BadHead),
-        Answer::BadLine { refusal, line } => Compiled::Refused(Refusal::BadLine { refusal, line }),
-        Answer::Crowded { line } => Compiled::Refused(Refusal::Crowded { line }),
-        Answer::Repeated { line } => Compiled::Refused(Refusal::TwinName { line }),
-        Answer::Dead { line } => Compiled::Refused(Refusal::DeadReference { line }),
-        Answer::Circled { line } => Compiled::Refused(Refusal::Circle { line }),
-        Answer::Fine => compile_checked(table, plan),
+    let verdict = table_verdict(table, plan.len());
+    match verdict {
+        Acceptance::Accepted => compile_accepted(table, plan),
+        Acceptance::Refused(r) => Compiled::Refused(r),
     }
 }

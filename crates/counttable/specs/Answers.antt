@@ -1,19 +1,20 @@
 -- What counting by a table answers.
 use mathlib.Core.List.{List}
 use lib.IntN.{ℤ}
-use Rattle.counter.specs.Counting.{Counting, counting}
-use Rattle.counter.specs.declared.Counted.{Counted}
+use Rattle.plans.specs.Refusals.{passed, refusal}
+use Rattle.counter.specs.declared.Tally.{Tally}
 use Rattle.tables.specs.TableCount.{TableCounting}
-use Rattle.compiler.specs.Answers.{tableRefusal, compiling}
-use Rattle.compiler.specs.declared.Compiled.{Compiled}
-use Rattle.compiler.specs.declared.Compiled.the-variants.{Written, Refused}
+use Rattle.compiler.specs.Answers.{tableRefusal}
+use Rattle.counttable.specs.declared.Outcome.{Outcome}
+use Rattle.counttable.specs.declared.Outcome.the-variants.{Counted, TableRefused, CountRefused}
 use Rattle.counttable.specs.declared.TableCount.{TableCount}
 
--- the verdict and the tally: a refused table's is its refusal
-abbrev pub countedBy : Compiled → Counted → Counting
-countedBy (Written words regions) c = counting c
-countedBy (Refused r) c = record { verdict = tableRefusal r; tally = c .tally }
+-- what an outcome says, with the tally and the slice afterwards; a refusal reports 0 words and 0 regions
+abbrev pub outcomeCounting : Outcome → Tally → List ℤ → TableCounting
+outcomeCounting (Counted words regions) tally slice = record { verdict = passed; words = words; regions = regions; tally = tally; slice = slice }
+outcomeCounting (TableRefused r) tally slice = record { verdict = tableRefusal r; words = 0; regions = 0; tally = tally; slice = slice }
+outcomeCounting (CountRefused r) tally slice = record { verdict = refusal r; words = 0; regions = 0; tally = tally; slice = slice }
 
 -- what an answer says, with the slice afterwards
 abbrev pub tableCounting : TableCount → List ℤ → TableCounting
-tableCounting t slice = record { compiled = compiling (t .compiled) slice; counted = countedBy (t .compiled) (t .counted) }
+tableCounting t slice = outcomeCounting (t .outcome) (t .tally) slice

@@ -1,2 +1,3 @@
 -- What counting by a table answers.
 pub mod Answers
+pub mod Inner

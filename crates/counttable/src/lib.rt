@@ -4,58 +4,72 @@ ghost use Rattle.counter.specs.Counting.{noTally};
 ghost use Rattle.tables.specs.TableCount.{countTableOf};
 ghost use Rattle.tables.specs.Demand.{KeepsDemand3};
 ghost use Rattle.counttable.specs.Answers.{tableCounting};
+ghost use Rattle.counttable.specs.Inner.Ragged.{ragged};
+use compiler::Acceptance;
 use compiler::Compiled;
 use compiler::compile;
-use counter::Counted;
+use compiler::table_verdict;
 use counter::Tally;
 use counter::counting::count;
-use plans::Checked;
+use counter::no_tally;
+use gatefields::fields::name_count;
+use heads::head_line;
 
-// What compiling answered, and what counting by the words that it reported answered; a tally of zeros where the table is refused.
+// What counting by a table answers: the words and regions of the plan that was written and counted by, or one refusal.
+pub enum Outcome {
+    Counted { words: usize, regions: usize },
+    // 1 to 18
+    TableRefused(compiler::Refusal),
+    // 21 to 23
+    CountRefused(plans::Refusal),
+}
+
+// The tally is all zeros where there is a refusal.
 pub struct TableCount {
-    pub compiled: Compiled,
-    pub counted: Counted,
+    pub outcome: Outcome,
+    pub tally: Tally,
 }
 
-fn no_tally() -> Tally
-    ensures { λ r. ⌜ r ≡ noTally ⌝ }
-{
-    Tally {
-        taken: 0,
-        spoilt: 0,
-        counts: [0u64; 64],
-    }
-}
-
-fn nothing_counted() -> Counted
-    ensures { λ r. ⌜ r .tally ≡ noTally ⌝ }
+// Nothing is counted.
+fn uncounted(outcome: Outcome) -> TableCount
+    ensures { λ r. ⌜ (r .outcome ≡ outcome) × (r .tally ≡ noTally) ⌝ }
 {
     let tally = no_tally();
-    Counted {
-        answer: Checked::Passed,
-        tally,
-    }
+    TableCount { outcome, tally }
 }
 
-// Compiles a table into a slice, then checks and counts by exactly the words that compiling reported.
-pub fn count_table(table: &[u8], plan: &mut [i32], events: &[i32]) -> TableCount
-    ensures { λ r. ⌜ (tableCounting r (now (plan .exit)) ≡ countTableOf (now (table .entry)) (now (plan .entry)) (now (events .entry))) × KeepsDemand3 (now (table .entry)) (now (plan .entry)) (now (events .entry)) (tableCounting r (now (plan .exit))) ⌝ }
+// Whether m values are no complete events of n values.
+fn is_ragged(n: usize, m: usize) -> bool
+    ensures { λ r. ⌜ r ≡ ragged n m ⌝ }
 {
+    if n == 0 { false } else { m % n != 0 }
+}
+
+// Compiles a table into a slice, then checks and counts by exactly the words that compiling reported. The slice is written only where nothing is
+// refused: a list that is no whole number of events is seen before.
+pub fn count_table(table: &[u8], plan: &mut [i32], events: &[i32]) -> TableCount
+    ensures { λ r. ⌜ tableCounting r (now (plan .exit)) ≡ countTableOf (now (table .entry)) (now (plan .entry)) (now (events .entry)) ⌝ }
+    ensures { λ r. ⌜ KeepsDemand3 (now (table .entry)) (now (plan .entry)) (now (events .entry)) (tableCounting r (now (plan .exit))) ⌝ }
+{
+    if is_ragged(name_count(head_line(table)), events.len()) {
+        let verdict = table_verdict(table, plan.len());
+        return match verdict {
+            Acceptance::Accepted => uncounted(Outcome::CountRefused(plans::Refusal::Ragged {
+                length: events.len(),
+            })),
+            Acceptance::Refused(r) => uncounted(Outcome::TableRefused(r)),
+        };
+    }
     let compiled = compile(table, plan);
     match compiled {
         Compiled::Written { words, regions } => {
             let counted = count(&plan[..words], events);
+            let tally = counted.tally;
             TableCount {
-                compiled: Compiled::Written { words, regions },
-                counted,
+                outcome: Outcome::Counted { words, regions },
+                tally,
             }
         }
-        Compiled::Refused(r) => {
-            let counted = nothing_counted();
-            TableCount {
-                compiled: Compiled::Refused(r),
-                counted,
-            }
-        }
+        Compiled::Refused(r) => uncounted(Outcome::TableRefused(r)),
     }
 }

@@ -27,6 +27,7 @@ use Rattle.events.specs.Listing.{Events, list, ragged, eventsOf}
 use Rattle.events.specs.Printing.{countLine, takenLine, spoiltLine, refusedLine}
 use Rattle.events.proofs.PrintingLaws.{Written, WrittenFrom, written-more}
 use Rattle.report.specs.Report.{regionLine, regionLines, tallyLines, unlessRefused, eventsLines, printed, reportOf}
+use Rattle.report.specs.Inner.Short.{Short}
 use Rattle.compiler.proofs.VerdictLaws.{number-accepted}
 use Rattle.report.proofs.AcceptedLaws.{names-short}
 
@@ -55,10 +56,6 @@ unfolding refusedLine
 refused-length number place = simp length-append (omega (arith, decimal-length number, decimal-length place))
 
 -- ---- regions with short names
-
--- the first m names have at most 16 bytes
-abbrev pub Short : List Region → ℕ → Type 0
-Short rs m = (k : ℕ) → k < m → length (nthRegion rs k .name) ≤ 16
 
 module _ (rs : List Region) (counts : List ℕ) where
   pub lines-more : (k : ℕ) → regionLines rs counts (k + 1) ≡ regionLines rs counts k ++ regionLine rs counts k
@@ -91,7 +88,8 @@ module _ (rs : List Region) (counts d : List ℕ) where
     lines-short m s h = omega (arith, w .0, lines-length rs counts m r s h)
 
 -- the lines of the regions, then `taken`, `spoilt`
-pub tally-written : (rs : List Region) (t : Tally) (d : List ℕ) (m : ℕ) {x y z : List ℕ} {a b c : ℕ} → m ≡ length rs → Written (regionLines rs (t .counts) m) d a x
+pub tally-written : (rs : List Region) (t : Tally) (d : List ℕ) (m : ℕ) {x y z : List ℕ} {a b c : ℕ} → m ≡ length rs
+    → Written (regionLines rs (t .counts) m) d a x
     → WrittenFrom a (takenLine (t .taken)) x b y → WrittenFrom (a + b) (spoiltLine (t .spoilt)) y c z → Written (tallyLines rs t) d (a + b + c) z
 unfolding tallyLines
 tally-written rs t d m e u v w =

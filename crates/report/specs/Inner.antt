@@ -1,2 +1,2 @@
 -- Definitions that only inner contracts and proofs cite.
-pub mod Answers
+pub mod Short

@@ -1,23 +1,21 @@
 // The report of a whole input: what `gatecount` prints.
 ghost use mathlib.Core.Path.{_≡_};
-ghost use Prim.Native.Nat.{ℕ, _≤_, _<_};
+ghost use Prim.Native.Nat.{_≤_};
 ghost use lib.ListN.{length, getD};
-ghost use Rattle.counter.specs.Counting.{counting};
-ghost use Rattle.text.specs.Output.{over, Writes};
+ghost use Rattle.text.specs.Output.{Writes};
 ghost use Rattle.gates.specs.Gate.{regions};
-ghost use Rattle.tables.specs.Table.{nthRegion};
-ghost use Rattle.tables.specs.Head.{dimensions, gates};
+ghost use Rattle.tables.specs.Head.{gates};
 ghost use Rattle.tables.specs.Refusals.{tableVerdict};
 ghost use Rattle.resolve.specs.Inner.Reading.{gatesAt};
-ghost use Rattle.events.specs.Parting.{tablePart};
-ghost use Rattle.events.specs.Listing.{eventsOf};
-ghost use Rattle.report.specs.Report.{regionLines, tallyLines, unlessRefused, countedLines, printed, reportOf};
-ghost use Rattle.report.specs.Inner.Answers.{readCount, answeredLines, Compiles};
-use compiler::Compiled;
+ghost use Rattle.events.specs.Listing.{list, ragged};
+ghost use Rattle.report.specs.Report.{regionLines, tallyLines, printed, reportOf};
+ghost use Rattle.report.specs.Inner.Short.{Printable};
+use compiler::Acceptance;
 use compiler::number_of;
 use compiler::place_of;
-use counter::Counted;
+use compiler::table_verdict;
 use counter::Tally;
+use counttable::Outcome;
 use counttable::count_table;
 use events::listing::Answer;
 use events::listing::read_events;
@@ -28,7 +26,6 @@ use events::printing::put_spoilt;
 use events::printing::put_taken;
 use gatefields::fields::name_count;
 use heads::head_line;
-use plans::Checked;
 use resolve::Starts;
 use resolve::starts_of;
 use tableregions::name_at;
@@ -49,8 +46,9 @@ fn put_regions(
     m: usize,
     tally: Tally,
 ) -> usize
-    requires { ⌜ (m ≤ 64) × (m ≤ length (regions (gatesAt (now text) (starts .at) n))) × ((k : ℕ) → k < m → length (nthRegion (regions (gatesAt (now text) (starts .at) n)) k .name) ≤ 16) ⌝ }
-    ensures { λ r. ⌜ (Writes (regionLines (regions (gatesAt (now (text .entry)) (starts .at) n)) (tally .counts) m) (now (out .entry)) (now (out .exit)) r) × (r ≤ 2432) ⌝ }
+    requires { ⌜ Printable (regions (gatesAt (now text) (starts .at) n)) m ⌝ }
+    ensures { λ r. ⌜ Writes (regionLines (regions (gatesAt (now (text .entry)) (starts .at) n)) (tally .counts) m) (now (out .entry)) (now (out .exit)) r ⌝ }
+    ensures { λ r. ⌜ r ≤ 2432 ⌝ }
 {
     let mut at: usize = 0;
     let mut r = 0;
@@ -74,16 +72,18 @@ fn put_tally(out: &mut [u8], text: &[u8], m: usize, tally: Tally) -> usize
     b + put_spoilt(out, b, tally.spoilt)
 }
 
-// Writes what counting answered.
-fn put_counted(out: &mut [u8], text: &[u8], m: usize, counted: Counted) -> usize
-    requires { ⌜ (tableVerdict 4096 (now text) .number ≡ 0) × (m ≡ length (regions (gates (now text)))) ⌝ }
-    ensures { λ r. ⌜ Writes (countedLines (regions (gates (now (text .entry)))) (counting counted)) (now (out .entry)) (now (out .exit)) r ⌝ }
+// Writes what counting a list of values by a table prints, with room for its plan.
+fn put_counted(out: &mut [u8], table: &[u8], plan: &mut [i32], values: &[i32]) -> usize
+    requires { ⌜ length (now plan) ≡ 4096 ⌝ }
+    ensures { λ r. ⌜ Writes (printed (now (table .entry)) (list (now (values .entry)))) (now (out .entry)) (now (out .exit)) r ⌝ }
 {
-    let answer = counted.answer;
-    let tally = counted.tally;
-    match answer {
-        Checked::Passed => put_tally(out, text, m, tally),
-        Checked::Refused(r) => put_refused(
+    let t = count_table(table, plan, values);
+    let outcome = t.outcome;
+    let tally = t.tally;
+    match outcome {
+        Outcome::Counted { words: _, regions } => put_tally(out, table, regions, tally),
+        Outcome::TableRefused(r) => put_refused(out, number_of(r), place_of(r)),
+        Outcome::CountRefused(r) => put_refused(
             out,
             plans::refusals::number_of(r),
             plans::refusals::place_of(r),
@@ -91,60 +91,32 @@ fn put_counted(out: &mut [u8], text: &[u8], m: usize, counted: Counted) -> usize
     }
 }
 
-// Writes what reading the events answered, or what counting them did.
-fn put_answer(out: &mut [u8], text: &[u8], m: usize, answer: Answer, counted: Counted) -> usize
-    requires { ⌜ (tableVerdict 4096 (now text) .number ≡ 0) × (m ≡ length (regions (gates (now text)))) ⌝ }
-    ensures { λ r. ⌜ Writes (answeredLines answer (countedLines (regions (gates (now (text .entry)))) (counting counted))) (now (out .entry)) (now (out .exit)) r ⌝ }
+// Writes what a table with a ragged line of events prints: the table's refusals come first.
+fn put_ragged(out: &mut [u8], table: &[u8], line: usize) -> usize
+    ensures { λ r. ⌜ Writes (printed (now (table .entry)) (ragged line)) (now (out .entry)) (now (out .exit)) r ⌝ }
 {
-    match answer {
-        Answer::Values(_) => put_counted(out, text, m, counted),
-        Answer::Ragged(line) => put_refused(out, 23, line as u64),
-        Answer::Short => put_counted(out, text, m, counted),
+    let verdict = table_verdict(table, 4096);
+    match verdict {
+        Acceptance::Accepted => put_refused(out, 23, line as u64),
+        Acceptance::Refused(r) => put_refused(out, number_of(r), place_of(r)),
     }
 }
 
-// How many values were read.
-fn value_count(answer: Answer) -> usize
-    ensures { λ r. ⌜ r ≡ readCount answer ⌝ }
-{
-    match answer {
-        Answer::Values(n) => n,
-        Answer::Ragged(_) => 0,
-        Answer::Short => 0,
-    }
-}
-
-// Writes the refusal of a table, or what reading and counting its events answered.
-fn put_table(
-    out: &mut [u8],
-    text: &[u8],
-    compiled: Compiled,
-    answer: Answer,
-    counted: Counted,
-) -> usize
-    requires { ⌜ Compiles (now text) compiled ⌝ }
-    ensures { λ r. ⌜ Writes (unlessRefused (tableVerdict 4096 (now (text .entry))) (answeredLines answer (countedLines (regions (gates (now (text .entry)))) (counting counted)))) (now (out .entry)) (now (out .exit)) r ⌝ }
-{
-    match compiled {
-        Compiled::Written { words: _, regions } => put_answer(out, text, regions, answer, counted),
-        Compiled::Refused(r) => put_refused(out, number_of(r), place_of(r)),
-    }
-}
-
-// Writes what is printed of an input of at most 65,536 bytes, with room for its plan and its events.
+// Writes the report of an input of at most 65,536 bytes, with room for its plan and its events.
 fn put_report(input: &[u8], plan: &mut [i32], list: &mut [i32], out: &mut [u8]) -> usize
     requires { ⌜ (length (now input) ≤ 65536) × (length (now plan) ≡ 4096) × (length (now list) ≡ 32768) ⌝ }
-    ensures { λ r. ⌜ Writes (printed (tablePart (now (input .entry))) (eventsOf (length (dimensions (tablePart (now (input .entry))))) (now (input .entry)))) (now (out .entry)) (now (out .exit)) r ⌝ }
+    ensures { λ r. ⌜ Writes (reportOf (now (input .entry))) (now (out .entry)) (now (out .exit)) r ⌝ }
 {
     let parted = split(input);
     let end = parted.table;
     let table = &input[..end];
     let answer = read_events(input, name_count(head_line(table)), list);
-    let k = value_count(answer);
-    let t = count_table(table, plan, &list[..k]);
-    let compiled = t.compiled;
-    let counted = t.counted;
-    put_table(out, table, compiled, answer, counted)
+    match answer {
+        Answer::Values(k) => put_counted(out, table, plan, &list[..k]),
+        Answer::Ragged(line) => put_ragged(out, table, line),
+        // never: 65,536 bytes hold at most 32,768 values
+        Answer::Short => 0,
+    }
 }
 
 // Room for the words of a plan.

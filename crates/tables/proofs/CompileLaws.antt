@@ -1,9 +1,10 @@
 -- What an accepted text has: 1 to 8 dimensions, good gates, a plan that passes; and what compiling it leaves in the slice.
-use mathlib.Core.Path.{_≡_, _∙_}
-use mathlib.Core.Bool.{true, _&&_}
+use mathlib.Core.Path.{_≡_, refl, _∙_}
+use mathlib.Core.Bool.{Bool, true, false, cond, _&&_}
 use mathlib.Core.List.{List, []}
 use Prim.Native.Nat.{ℕ, _≤_}
-use lib.Dec.{leb}
+use native.Mathlib.Omega.{arith}
+use lib.Dec.{leb, eqb}
 use lib.IntN.{ℤ}
 use lib.ListN.{length, getD, take, drop}
 use lib.Seq.{take-append-seam}
@@ -22,7 +23,7 @@ use Rattle.tables.specs.Table.{_∈_}
 use Rattle.tables.specs.Head.{headFields, dimensions, isDims, headGood, gateLines, lineGate, gates}
 use Rattle.tables.specs.Steps.{planWords}
 use Rattle.tables.specs.Refusals.{tableVerdict}
-use Rattle.tables.specs.Compile.{planOf, compileOf}
+use Rattle.tables.specs.Compile.{planOf, compiled, uncompiled, compileOf}
 use Rattle.tables.proofs.ListLaws.{map-from}
 use Rattle.tables.proofs.GateLaws.{orderly}
 use Rattle.tables.proofs.PlanPasses.{plan-reads}
@@ -34,10 +35,26 @@ use Rattle.tables.proofs.CountLaws.{good-regions}
 take-over : (p d : List ℤ) → length p ≤ length d → take (length p) (over p d) ≡ p
 take-over p d h = rw (over-fits p d h) (take-append-seam p (drop (length p) d))
 
-module _ (text : List ℕ) (slice : List ℤ) (e : tableVerdict (length slice) text ≡ passed) where
-  pub compiled-passed : compileOf text slice .verdict ≡ passed
+module _ (text : List ℕ) (slice : List ℤ) where
+  pub compiled-verdict : compileOf text slice .verdict ≡ tableVerdict (length slice) text
   unfolding compileOf
-  compiled-passed = rw e
+  compiled-verdict = go (eqb (tableVerdict (length slice) text .number) 0)
+    where
+      go : (b : Bool)
+          → cond b (compiled text slice (tableVerdict (length slice) text)) (uncompiled slice (tableVerdict (length slice) text)) .verdict
+          ≡ tableVerdict (length slice) text
+      go true = refl
+      go false = refl
+
+  -- a compile that reports no words is refused
+  pub compiled-words : tableVerdict (length slice) text .number ≡ 0 → 2 ≤ compileOf text slice .words
+  unfolding compileOf planOf planWords
+  compiled-words e = rw e (omega arith)
+
+module _ (text : List ℕ) (slice : List ℤ) (e : tableVerdict (length slice) text ≡ passed) where
+  pub compiled-regions : compileOf text slice .regions ≡ length (regions (gates text))
+  unfolding compileOf
+  compiled-regions = rw e
 
   -- the words reported are the plan
   pub compiled-plan : length (planOf text) ≤ length slice → take (compileOf text slice .words) (compileOf text slice .slice) ≡ planOf text

@@ -2,7 +2,7 @@
 use mathlib.Core.Path.{_≡_, refl, sym, ap, _∙_}
 use mathlib.Core.Option.{Option, none, some}
 use mathlib.Core.List.{List, Memᴰ·append-left, List·Memᴰ·head as here, List·Permᴰ}
-use Prim.Native.Nat.{ℕ, _/_, _%_, _<_, _≤_}
+use Prim.Native.Nat.{ℕ, _%_, _<_, _≤_}
 use native.Mathlib.Omega.{arith}
 use lib.IntN.{ℤ}
 use lib.ListN.{length, getD}
@@ -14,11 +14,11 @@ use Rattle.counter.specs.declared.Tally.{Tally}
 use Rattle.gates.specs.Gate.{Name, Quadrant, quad, Gate, Region, regions}
 use Rattle.gates.proofs.GoodGate.{GoodBody}
 use Rattle.tables.specs.Table.{_∈_, nthRegion, names, numberOf, parentNames, bodyReferences, sumOf}
-use Rattle.tables.specs.Head.{dimensions, gates, LineOrder, reordered}
+use Rattle.tables.specs.Head.{gates, LineOrder, reordered}
 use Rattle.tables.specs.Members.{member}
 use Rattle.tables.specs.Steps.{planWords}
 use Rattle.tables.specs.Refusals.{tableVerdict}
-use Rattle.tables.specs.Compile.{planOf, compileOf}
+use Rattle.tables.specs.Compile.{planOf, Compiling, compileOf}
 use Rattle.tables.specs.TableCount.{lent, countTableOf}
 use Rattle.tables.specs.Demand.{dims, eventCount, countOfName, countOfParent, Demand3, KeepsDemand3}
 use Rattle.tables.proofs.ListLaws.{map-in}
@@ -28,7 +28,8 @@ use Rattle.tables.proofs.GateLaws.{orderly, moved-region, moved-name}
 use Rattle.tables.proofs.Acceptance.{Accepted, passed-accepted, accepted-passed}
 use Rattle.tables.proofs.ReorderLaws.{same-dimensions, gates-moved, reordered-accepted}
 use Rattle.tables.proofs.CountLaws.{plan-width, counted, tally-taken, tally-spoilt, count-by-name, inParentOf, quadrant-name, quadrants-add-up}
-use Rattle.tables.proofs.CompileLaws.{compiled-passed, compiled-plan, head-width, gates-good, plan-passes}
+use Rattle.tables.proofs.CompileLaws.{compiled-plan, head-width, gates-good, plan-passes}
+use Rattle.tables.proofs.TableCountLaws.{complete-counted}
 
 -- ---- the steps, for one text, order, slice and list
 
@@ -37,9 +38,13 @@ module _ (text : List ℕ) (accepted : tableVerdict 4096 text ≡ passed) (ks : 
   abbrev again : List ℕ
   again = reordered text ks
 
+  -- what compiling gives
+  abbrev into : Compiling
+  into = compileOf again slice
+
   -- the one tally of the list by the words lent
   abbrev tally : Tally
-  tally = countOf (lent (compileOf again slice)) values .tally
+  tally = countOf (lent (into .words) (into .slice)) values .tally
 
   abbrev n : ℕ
   n = dims text
@@ -70,18 +75,18 @@ module _ (text : List ℕ) (accepted : tableVerdict 4096 text ≡ passed) (ks : 
   verdict-again : tableVerdict (length slice) again ≡ passed
   verdict-again = rw room (accepted-passed 4096 again b)
 
-  is-plan : lent (compileOf again slice) ≡ planOf again
+  is-plan : lent (into .words) (into .slice) ≡ planOf again
   is-plan = let f = b .plan-fits in compiled-plan again slice verdict-again (omega arith)
 
   is-words : planOf again ≡ planWords n (regions u)
   unfolding planOf
   is-words = rw same-n
 
-  is-passing : checkOf (lent (compileOf again slice)) ≡ passed
+  is-passing : checkOf (lent (into .words) (into .slice)) ≡ passed
   is-passing = rw is-plan (plan-passes 4096 again b)
 
   -- the tally is that of the plan's words
-  is-counting : countOf (lent (compileOf again slice)) values
+  is-counting : countOf (lent (into .words) (into .slice)) values
       ≡ record { verdict = passed; tally = tallyOf (planWords n (regions u)) values (eventCount text values) }
   is-counting =
       let p = planWords n (regions u) in
@@ -130,17 +135,13 @@ module _ (text : List ℕ) (accepted : tableVerdict 4096 text ≡ passed) (ks : 
       ∙ quadrants-add-up t (a .rules) n some-values g m qs e good values
       ∙ parent-is (g .parent) (λ k i. a .rules .alive g m k (Memᴰ·append-left (bodyReferences (g .body)) i))
 
-  -- the counting of the table is that of the words lent
-  counting-is : countTableOf again slice values .counted ≡ countOf (lent (compileOf again slice)) values
-  unfolding countTableOf
-  counting-is = rw (compiled-passed again slice verdict-again)
-
-  whole : Demand3 text again values (record { compiled = compileOf again slice; counted = countOf (lent (compileOf again slice)) values })
+  whole : Demand3 text again values (record { verdict = passed; words = into .words; regions = into .regions; tally = tally; slice = into .slice })
   whole = record {
-    compiles = compiled-passed again slice verdict-again;
+    compiles = accepted-passed 4096 again b;
+    unrefused = refl;
     its-plan = is-plan;
     passing = is-passing;
-    counting = ap (λ (c : Counting). c .verdict) is-counting;
+    counting = is-counting ∙ ap (λ (y : Tally). record { verdict = passed; tally = y }) (sym is-tally);
     found = found-is;
     by-name = λ r m. count-is (r .name) (map-in (λ (x : Region). x .name) m);
     all-taken = taken-is;
@@ -148,9 +149,8 @@ module _ (text : List ℕ) (accepted : tableVerdict 4096 text ≡ passed) (ks : 
     quadrants = quadrants-are;
   }
 
-  is-counted : countTableOf again slice values ≡ record { compiled = compileOf again slice; counted = countOf (lent (compileOf again slice)) values }
-  unfolding countTableOf
-  is-counted = ap (λ (x : Counting). record { compiled = compileOf again slice; counted = x }) counting-is
+  is-counted : countTableOf again slice values ≡ record { verdict = passed; words = into .words; regions = into .regions; tally = tally; slice = into .slice }
+  is-counted = complete-counted again slice values verdict-again (rw same-n complete)
 
   kept : Demand3 text again values (countTableOf again slice values)
   kept = rw is-counted whole

@@ -80,10 +80,10 @@ inGate name x y = member (gates example) (x ∷ y ∷ []) name
 
 pub tableCases : List Case
 tableCases =
-    is (sameWords (lent (answer .compiled)) examplePlan) true
-    ∷ is (same (take 5 (answer .counted .tally .counts)) (3 ∷ 4 ∷ 1 ∷ 3 ∷ 1 ∷ [])) true
-    ∷ is (eqb (answer .counted .tally .taken) 5) true
-    ∷ is (eqb (answer .counted .tally .spoilt) 1) true
+    is (sameWords (lent (answer .words) (answer .slice)) examplePlan) true
+    ∷ is (same (take 5 (answer .tally .counts)) (3 ∷ 4 ∷ 1 ∷ 3 ∷ 1 ∷ [])) true
+    ∷ is (eqb (answer .tally .taken) 5) true
+    ∷ is (eqb (answer .tally .spoilt) 1) true
     ∷ is (inGate (bytes "Ring") (pos 600) (pos 200)) true
     ∷ is (inGate (bytes "Ring") (pos 400) (pos 375)) true
     ∷ is (inGate (bytes "Ring") (pos 400) (pos 376)) false

@@ -17,6 +17,7 @@ pub mod ReorderLaws
 pub mod MemberTheorems
 pub mod CountLaws
 pub mod CompileLaws
+pub mod TableCountLaws
 pub mod LoopLaws
 pub mod Examples
 pub mod Demand

@@ -8,7 +8,7 @@ use lib.ListN.{length, getD}
 use Rattle.plans.specs.Indices.{howMany}
 use Rattle.plans.specs.Refusals.{passed}
 use Rattle.plans.specs.Form.{checkOf}
-use Rattle.counter.specs.Counting.{eventAt, takenAt, spoiltAt}
+use Rattle.counter.specs.Counting.{eventAt, takenAt, spoiltAt, countOf}
 use Rattle.counter.specs.declared.Tally.{Tally}
 use Rattle.gates.specs.Gate.{Name, Quadrant, quad, Gate, Region, regions}
 use Rattle.tables.specs.Table.{_∈_, nthRegion, numberOf, sumOf}
@@ -35,26 +35,27 @@ countOfParent again tally none = tally .taken
 countOfParent again tally (some name) = countOfName again tally name
 
 -- text is the accepted table, again the same with its gate lines in another order, values the list; c is what compiling again into a slice
--- and counting the list by the words reported gave
+-- of 4,096 words and counting the list by the words reported gave
 pub record Demand3 (text again : List ℕ) (values : List ℤ) (c : TableCounting) : Type 0 where
-  -- the reordered table compiles, and the words reported written are its plan
-  pub compiles : c .compiled .verdict ≡ passed
-  pub its-plan : lent (c .compiled) ≡ planOf again
-  -- that plan passes, and counting by it is not refused
-  pub passing : checkOf (lent (c .compiled)) ≡ passed
-  pub counting : c .counted .verdict ≡ passed
+  -- the reordered table compiles, nothing is refused, and the words reported written are its plan
+  pub compiles : tableVerdict 4096 again ≡ passed
+  pub unrefused : c .verdict ≡ passed
+  pub its-plan : lent (c .words) (c .slice) ≡ planOf again
+  -- that plan passes, and counting by it is not refused and gives the tally
+  pub passing : checkOf (lent (c .words) (c .slice)) ≡ passed
+  pub counting : countOf (lent (c .words) (c .slice)) values ≡ record { verdict = passed; tally = c .tally }
   -- the number at which a region is found by its name is one of the 64, and its own in the reordered table
   pub found : (r : Region) → r ∈ regions (gates text)
       → (numberOf (regions (gates again)) (r .name) < 64) × (nthRegion (regions (gates again)) (numberOf (regions (gates again)) (r .name)) ≡ r)
   -- each region, found by its name, has the number of listed events that are its members by the accepted table's own lines
   pub by-name : (r : Region) → r ∈ regions (gates text)
-      → countOfName again (c .counted .tally) (r .name) ≡ howMany (λ j. member (gates text) (eventAt (dims text) values j) (r .name)) (eventCount text values)
+      → countOfName again (c .tally) (r .name) ≡ howMany (λ j. member (gates text) (eventAt (dims text) values j) (r .name)) (eventCount text values)
   -- the numbers of listed events that are taken and that are spoilt
-  pub all-taken : c .counted .tally .taken ≡ howMany (takenAt (dims text) values) (eventCount text values)
-  pub all-spoilt : c .counted .tally .spoilt ≡ howMany (spoiltAt (dims text) values) (eventCount text values)
+  pub all-taken : c .tally .taken ≡ howMany (takenAt (dims text) values) (eventCount text values)
+  pub all-spoilt : c .tally .spoilt ≡ howMany (spoiltAt (dims text) values) (eventCount text values)
   -- the counts of a quadrant gate's quadrants add up
   pub quadrants : (g : Gate) → g ∈ gates text → (qs : List Quadrant) → g .body ≡ quad qs
-      → sumOf (λ (q : Quadrant). countOfName again (c .counted .tally) (q .name)) qs ≡ countOfParent again (c .counted .tally) (g .parent)
+      → sumOf (λ (q : Quadrant). countOfName again (c .tally) (q .name)) qs ≡ countOfParent again (c .tally) (g .parent)
 
 -- the claim, of every accepted table of which again is an order, every slice of 4,096 words and every list of complete events
 abbrev pub KeepsDemand3 : List ℕ → List ℤ → List ℤ → TableCounting → Type 0

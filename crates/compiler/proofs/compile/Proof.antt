@@ -1,63 +1,25 @@
--- `compile` meets its contract: each refusal of 1 to 16, else 17, 18 and the plan.
-use Rattle.compiler.proofs.VerdictLaws.{refused-as, unrefused-as}
+-- `compile`: the refusal, or the plan.
+use mathlib.Core.Path.{sym, ap, _∙_}
 use borrow.Author.Needs.{needs}
-use mathlib.Core.Path.{refl}
+use Rattle.compiler.specs.Answers.{acceptance, accepts}
+use Rattle.compiler.proofs.VerdictLaws.{compile-refused}
 use Rattle.compiler.proofs.compile.Statement.{statement}
 use Rattle.compiler.proofs.compile.Tie as tie
 
-compile-checked-requires : tie.Need-compile-checked-requires
-compile-checked-requires c κs =
-    let entry = c .before .before .before .before .before in
-    let check-table = c .before .before .before .check-table in
-    unrefused-as (entry .args .table .now) (entry .args .plan .now) (check-table .ensures) (c .before .enum-told4 .given .1)
-
-returns : tie.Need-returns
-returns c =
-    let entry = c .before .before .before .before in
-    let check-table = c .before .before .check-table in
-    refused-as (entry .args .table .now) (entry .args .plan .now) (check-table .ensures) (c .enum-told .given .1) 1 0 (λ v. refl)
+compile-accepted-requires : tie.Need-compile-accepted-requires
+compile-accepted-requires c κs =
+    let told = c .before in
+    let asked = told .before .before in
+    sym (asked .table-verdict .ensures .0) ∙ ap acceptance (told .enum-told .given .1)
 
 returns-2 : tie.Need-returns-2
 returns-2 c =
-    let entry = c .before .before .before .before in
-    let check-table = c .before .before .check-table in
-    refused-as (entry .args .table .now) (entry .args .plan .now) (check-table .ensures) (c .enum-told2 .given .1) 2 0 (λ v. refl)
-
-returns-3 : tie.Need-returns-3
-returns-3 c =
-    let entry = c .before .before .before .before in
-    let check-table = c .before .before .check-table in
-    refused-as (entry .args .table .now) (entry .args .plan .now) (check-table .ensures) (c .enum-told3 .given .1) 3 1 (λ v. refl)
-
-returns-4 : tie.Need-returns-4
-returns-4 c =
-    let entry = c .before .before .before .before .before in
-    let check-table = c .before .before .before .check-table in
-    refused-as (entry .args .table .now) (entry .args .plan .now) (check-table .ensures) (c .before .answer .given .1) _ _ (λ v. refl)
-
-returns-5 : tie.Need-returns-5
-returns-5 c =
-    let entry = c .before .before .before .before .before in
-    let check-table = c .before .before .before .check-table in
-    refused-as (entry .args .table .now) (entry .args .plan .now) (check-table .ensures) (c .before .answer2 .given .1) 13 _ (λ v. refl)
-
-returns-6 : tie.Need-returns-6
-returns-6 c =
-    let entry = c .before .before .before .before .before in
-    let check-table = c .before .before .before .check-table in
-    refused-as (entry .args .table .now) (entry .args .plan .now) (check-table .ensures) (c .before .answer3 .given .1) 14 _ (λ v. refl)
-
-returns-7 : tie.Need-returns-7
-returns-7 c =
-    let entry = c .before .before .before .before .before in
-    let check-table = c .before .before .before .check-table in
-    refused-as (entry .args .table .now) (entry .args .plan .now) (check-table .ensures) (c .before .answer4 .given .1) 15 _ (λ v. refl)
-
-returns-8 : tie.Need-returns-8
-returns-8 c =
-    let entry = c .before .before .before .before .before in
-    let check-table = c .before .before .before .check-table in
-    refused-as (entry .args .table .now) (entry .args .plan .now) (check-table .ensures) (c .before .answer5 .given .1) 16 _ (λ v. refl)
+    let told = c .before in
+    let asked = told .before .before in
+    let entry = asked .before .before in
+    let e = sym (told .verdict .given .1) in
+    let v = asked .table-verdict .ensures in
+    compile-refused (entry .args .table .now) (entry .args .plan .now) (ap acceptance e ∙ v .0, ap accepts e ∙ v .1)
 
 pub compile-spec : {M : Type 1} → statement M
 compile-spec =
@@ -65,22 +27,8 @@ compile-spec =
     (tie.spec
     (λ c κs. search needs)
     (λ c. search needs)
+    compile-accepted-requires
     (λ c. search needs)
     (λ c. search needs)
     (λ c. search needs)
-    (λ c. search needs)
-    (λ c. search needs)
-    (λ c. search needs)
-    (λ c. search needs)
-    (λ c. search needs)
-    compile-checked-requires
-    returns
-    returns-2
-    returns-3
-    returns-4
-    returns-5
-    returns-6
-    returns-7
-    returns-8
-    (λ c. search needs)
-    (λ c. search needs))
+    returns-2)

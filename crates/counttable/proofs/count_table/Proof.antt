@@ -1,22 +1,100 @@
--- `count_table`: by the words that compiling reported, or nothing.
-use Rattle.counttable.proofs.CountLaws.{words-inside, counted-by, counted-not}
+-- `count_table`: by the words that compiling reported, or nothing; a ragged list is refused where the table is not.
+use mathlib.Core.Path.{sym}
 use borrow.Author.Needs.{needs}
 use lib.Seq.{length-take-le}
-use mathlib.Core.Path.{sym}
+use Rattle.compiler.proofs.PlanLaws.{dims-read}
+use Rattle.counttable.proofs.CountLaws.{refused-first, ragged-next, words-inside, counted-by, counted-not}
 use Rattle.counttable.proofs.count_table.Statement.{statement}
 use Rattle.counttable.proofs.count_table.Tie as tie
 
-slice-reshare-prefix-count : tie.Need-slice-reshare-prefix-count
-slice-reshare-prefix-count c = words-inside (c .before .before .before .before .before .before .before .args .table .now) (c .before .before .before .before .before .before .before .args .plan .now) (c .before .before .before .before .before .before .before .args .events .now) (c .before .before .before .before .compile .result) (c .before .before .before .before .compile .last .1 .0) (c .before .before .before .before .compile .ensures) (c .before .compiled .given .1)
-
-slice-aggregate-count : tie.Need-slice-aggregate-count
-slice-aggregate-count c = sym (length-take-le _ _ (words-inside (c .before .before .before .before .before .before .before .before .args .table .now) (c .before .before .before .before .before .before .before .before .args .plan .now) (c .before .before .before .before .before .before .before .before .args .events .now) (c .before .before .before .before .before .compile .result) (c .before .before .before .before .before .compile .last .1 .0) (c .before .before .before .before .before .compile .ensures) (c .before .before .compiled .given .1)))
-
 returns : tie.Need-returns
-returns c = counted-by (c .before .before .before .before .before .before .before .before .before .args .table .now) (c .before .before .before .before .before .before .before .before .before .args .plan .now) (c .before .before .before .before .before .before .before .before .before .args .events .now) (c .before .before .before .before .before .before .compile .result) (c .before .before .before .before .before .before .compile .last .1 .0) (c .before .before .before .before .before .before .compile .ensures) (c .before .before .before .compiled .given .1) (c .count .result) (c .count .ensures)
+returns c =
+    let told = c .before in
+    let asked = told .before .before in
+    let ragged = asked .before in
+    let called = ragged .before in
+    let names = called .before in
+    let head = names .before in
+    let entry = head .before .before in
+    let a = entry .args in
+    let n = dims-read (a .table .now) (head .head-line .ensures) (names .name-count .ensures) in
+    ragged-next (a .table .now) (a .plan .now) (a .events .now) (asked .table-verdict .ensures .0) (asked .table-verdict .ensures .1) (c .uncounted .result)
+    (told .enum-told .given .1) n (called .is-ragged .ensures) (ragged .if1 .taken) (c .uncounted .ensures)
 
 returns-2 : tie.Need-returns-2
-returns-2 c = counted-not (c .before .before .before .before .before .before .before .before .args .table .now) (c .before .before .before .before .before .before .before .before .args .plan .now) (c .before .before .before .before .before .before .before .before .args .events .now) (c .before .before .before .before .before .compile .result) (c .before .before .before .before .before .compile .last .1 .0) (c .before .before .before .before .before .compile .ensures) (c .before .before .compiled2 .given .1) (c .nothing-counted .result) (c .nothing-counted .ensures)
+returns-2 c =
+    let told = c .before .before in
+    let asked = told .before .before in
+    let entry = asked .before .before .before .before .before .before in
+    let a = entry .args in
+    refused-first (a .table .now) (a .plan .now) (a .events .now) (asked .table-verdict .ensures .0) (asked .table-verdict .ensures .1) (c .uncounted2 .result)
+    (told .verdict .given .1) (c .uncounted2 .ensures)
+
+slice-reshare-prefix-count : tie.Need-slice-reshare-prefix-count
+slice-reshare-prefix-count c =
+    let told = c .before in
+    let compiled = told .before .before .before in
+    let entry = compiled .before .before .before .before .before .before .before in
+    let a = entry .args in
+    words-inside (a .table .now) (a .plan .now) (a .events .now) (compiled .compile .result) (compiled .compile .last .1 .0) (compiled .compile .ensures)
+    (told .compiled .given .1)
+
+slice-aggregate-count : tie.Need-slice-aggregate-count
+slice-aggregate-count c =
+    let told = c .before .before in
+    let compiled = told .before .before .before in
+    let entry = compiled .before .before .before .before .before .before .before in
+    let a = entry .args in
+    sym (length-take-le _ _ (words-inside (a .table .now) (a .plan .now) (a .events .now) (compiled .compile .result) (compiled .compile .last .1 .0)
+    (compiled .compile .ensures) (told .compiled .given .1)))
+
+returns-3 : tie.Need-returns-3
+returns-3 c =
+    let counted = c .before in
+    let told = counted .before .before .before in
+    let compiled = told .before .before .before in
+    let asked = compiled .before in
+    let ragged = asked .before in
+    let called = ragged .before in
+    let names = called .before in
+    let head = names .before in
+    let entry = head .before .before in
+    let a = entry .args in
+    let n = dims-read (a .table .now) (head .head-line .ensures) (names .name-count .ensures) in
+    counted-by (a .table .now) (a .plan .now) (a .events .now) (compiled .compile .result) (compiled .compile .last .1 .0) (compiled .compile .ensures)
+    (told .compiled .given .1) n (called .is-ragged .ensures) (ragged .if1 .left) (counted .count .result) (counted .count .ensures)
+
+returns-4 : tie.Need-returns-4
+returns-4 c =
+    let told = c .before .before in
+    let compiled = told .before .before .before in
+    let entry = compiled .before .before .before .before .before .before .before in
+    let a = entry .args in
+    counted-not (a .table .now) (a .plan .now) (a .events .now) (compiled .compile .result) (compiled .compile .last .1 .0) (compiled .compile .ensures)
+    (told .compiled2 .given .1) (c .uncounted3 .result) (c .uncounted3 .ensures)
 
 pub count-table-spec : {M : Type 1} → statement M
-count-table-spec = tie.close (tie.spec (λ c κs. search needs) (λ c. search needs) slice-reshare-prefix-count slice-aggregate-count (λ c κs. search needs) (λ c. search needs) (λ c κs. search needs) (λ c. search needs) returns (λ c. search needs) returns-2)
+count-table-spec =
+    tie.close
+    (tie.spec
+    (λ c κs. search needs)
+    (λ c κs. search needs)
+    (λ c κs. search needs)
+    (λ c κs. search needs)
+    (λ c. search needs)
+    (λ c κs. search needs)
+    (λ c. search needs)
+    (λ c κs. search needs)
+    returns
+    returns-2
+    (λ c κs. search needs)
+    (λ c. search needs)
+    slice-reshare-prefix-count
+    slice-aggregate-count
+    (λ c κs. search needs)
+    (λ c. search needs)
+    (λ c κs. search needs)
+    (λ c. search needs)
+    returns-3
+    (λ c. search needs)
+    returns-4)

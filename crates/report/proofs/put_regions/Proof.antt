@@ -28,10 +28,14 @@ add-at c =
     let g = p .before .before .before in
     let l = g .before .before in
     let e = l .before .before .before in
+    let loop = l .loop in
     let a = e .args in
+    let pre = e .pre in
     let rs = regions (gatesAt (a .text .now) (a .starts .at) (a .n)) in
-    let w = lines-next rs (a .tally .counts) (a .out .now) (l .loop .r) (l .loop .at) (l .loop .inv .1) (g .name-at .ensures) (p .before .count-at .ensures) (p .put-count-from .ensures) in
-    omega (arith, e .pre .0, lines-short rs (a .tally .counts) (a .out .now) (l .loop .r + 1) _ w (a .m) (e .pre .2) (omega arith))
+    let w =
+    lines-next rs (a .tally .counts) (a .out .now) (loop .r) (loop .at) (loop .inv .1) (g .name-at .ensures)
+    (p .before .count-at .ensures) (p .put-count-from .ensures) in
+    omega (arith, pre .0, lines-short rs (a .tally .counts) (a .out .now) (loop .r + 1) _ w (a .m) (pre .2) (omega arith))
 
 loop-again : tie.Need-loop-again Inv-loop μ-loop
 loop-again c =
@@ -39,7 +43,11 @@ loop-again c =
     let g = p .before .before .before in
     let l = g .before .before in
     let e = l .before .before .before in
-    (search needs, lines-next _ _ _ (l .loop .r) (l .loop .at) (l .loop .inv .1) (g .name-at .ensures) (p .before .count-at .ensures) (p .put-count-from .ensures))
+    let loop = l .loop in (
+      search needs,
+      lines-next _ _ _ (loop .r) (loop .at) (loop .inv .1) (g .name-at .ensures (omega (arith, e .pre .1))) (p .before .count-at .ensures)
+          (p .put-count-from .ensures),
+    )
 
 same-length : tie.Need-same-length Inv-loop μ-loop
 same-length c = ap length (c .before .loop .inv .1 .1) ∙ over-length _ _

@@ -1,6 +1,6 @@
 -- `report`: over 65,536 bytes refusal 1, else what is printed of the input.
 use borrow.Author.Needs.{needs}
-use Rattle.report.proofs.InputLaws.{report-long, report-printed}
+use Rattle.report.proofs.InputLaws.{report-long}
 use Rattle.report.proofs.report.Statement.{statement}
 use Rattle.report.proofs.report.Tie as tie
 
@@ -11,10 +11,7 @@ returns c =
     rw (report-long (t .before .before .before .args .input .now) (t .if1 .taken)) (w .put-refused .ensures)
 
 returns-2 : tie.Need-returns-2
-returns-2 c =
-    let w = c .before .before .before .before in
-    let t = w .before .before .before .before .before .before in
-    rw (report-printed (t .before .before .before .args .input .now) (t .if1 .left)) (w .put-report .ensures)
+returns-2 c = c .before .before .before .before .put-report .ensures
 
 pub report-spec : {M : Type 1} → statement M
 report-spec =

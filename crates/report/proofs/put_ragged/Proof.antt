@@ -1,0 +1,42 @@
+-- `put_ragged`: the table's refusal, else 23 at the line.
+use borrow.Author.Needs.{needs}
+use Rattle.report.proofs.TableLaws.{ragged-prints, table-first}
+use Rattle.report.proofs.put_ragged.Statement.{statement}
+use Rattle.report.proofs.put_ragged.Tie as tie
+
+returns : tie.Need-returns
+returns c =
+    let put = c .before .before in
+    let told = put .before .before in
+    let asked = told .before .before in
+    let entry = asked .before .before .before in
+    let v = asked .table-verdict .ensures in
+    rw (ragged-prints (entry .args .table .now) (entry .args .line) (v .0) (v .1) (told .enum-told .given .1)) (put .put-refused .ensures)
+
+returns-2 : tie.Need-returns-2
+returns-2 c =
+    let put = c .before .before in
+    let place = put .before in
+    let number = place .before in
+    let told = number .before .before .before in
+    let asked = told .before .before in
+    let v = asked .table-verdict .ensures in
+    let args = asked .before .before .before .args in
+    rw (table-first (args .table .now) (args .line) (v .0) (v .1) (told .verdict .given .1) _ _ (number .number-of .ensures) (place .place-of .ensures))
+    (put .put-refused2 .ensures)
+
+pub put-ragged-spec : {M : Type 1} → statement M
+put-ragged-spec =
+    tie.close
+    (tie.spec
+    (λ c κs. search needs)
+    (λ c. search needs)
+    (λ c κs. search needs)
+    (λ c. search needs)
+    (λ c κs. search needs)
+    (λ c κs. search needs)
+    (λ c κs. search needs)
+    (λ c. search needs)
+    returns
+    (λ c. search needs)
+    returns-2)
