@@ -7,9 +7,9 @@ use Rattle.compiler.proofs.table_verdict.Tie as tie
 
 measured-requires : tie.Need-measured-requires
 measured-requires c κs =
-    let checked = c .before .before .before in
+    let checked = c .before .before in
     let entry = checked .before .before in
-    unrefused-as (entry .args .table .now) (entry .args .room) (checked .check-table .ensures) (c .before .enum-told4 .given .1)
+    unrefused-as (entry .args .table .now) (entry .args .room) (checked .check-table .ensures) (c .enum-told4 .given .1)
 
 returns : tie.Need-returns
 returns c =
@@ -64,7 +64,6 @@ table-verdict-spec =
     tie.close
     (tie.spec
     (λ c κs. search needs)
-    (λ c. search needs)
     (λ c. search needs)
     (λ c. search needs)
     (λ c. search needs)
