@@ -28,7 +28,7 @@ use Rattle.events.specs.declared.parting.Parted.{Parted}
 use Rattle.events.specs.declared.listing.Answer.{Answer}
 use Rattle.events.specs.declared.listing.Answer.the-variants.{Values, Ragged, Short}
 use Rattle.events.proofs.EventTheorems.{values-few}
-use Rattle.report.specs.Report.{printed, reportOf}
+use Rattle.report.specs.Report.{unlessRefused, countedLines, printed, reportOf}
 
 -- ---- over 65,536 bytes, or not
 

@@ -90,7 +90,7 @@ module _ (text : List ℕ) (slice values : List ℤ) (room : length slice ≡ 40
 
 -- ---- a ragged line
 
-module _ (text : List ℕ) (line : ℕ) {a : Acceptance} (v : acceptance a ≡ tableVerdict 4096 text) (w : accepts a ≡ eqb (tableVerdict 4096 text .number) 0) where
+module _ (text : List ℕ) (line : ℕ) (a : Acceptance) (v : acceptance a ≡ tableVerdict 4096 text) (w : accepts a ≡ eqb (tableVerdict 4096 text .number) 0) where
   pub ragged-prints : a ≡ Accepted → printed text (ragged line) ≡ refusedLine 23 line
   unfolding printed
   ragged-prints e = let f : tableVerdict 4096 text ≡ passed = sym v ∙ ap acceptance e in rw f

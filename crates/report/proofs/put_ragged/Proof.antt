@@ -10,8 +10,9 @@ returns c =
     let told = put .before .before in
     let asked = told .before .before in
     let entry = asked .before .before .before in
+    let a = asked .table-verdict .result in
     let v = asked .table-verdict .ensures in
-    rw (ragged-prints (entry .args .table .now) (entry .args .line) (v .0) (v .1) (told .enum-told .given .1)) (put .put-refused .ensures)
+    rw (ragged-prints (entry .args .table .now) (entry .args .line) a (v .0) (v .1) (told .enum-told .given .1)) (put .put-refused .ensures)
 
 returns-2 : tie.Need-returns-2
 returns-2 c =
@@ -20,9 +21,10 @@ returns-2 c =
     let number = place .before in
     let told = number .before .before .before in
     let asked = told .before .before in
+    let a = asked .table-verdict .result in
     let v = asked .table-verdict .ensures in
     let args = asked .before .before .before .args in
-    rw (table-first (args .table .now) (args .line) (v .0) (v .1) (told .verdict .given .1) _ _ (number .number-of .ensures) (place .place-of .ensures))
+    rw (table-first (args .table .now) (args .line) a (v .0) (v .1) (told .verdict .given .1) _ _ (number .number-of .ensures) (place .place-of .ensures))
     (put .put-refused2 .ensures)
 
 pub put-ragged-spec : {M : Type 1} → statement M

@@ -45,7 +45,7 @@ loop-again c =
     let e = l .before .before .before in
     let loop = l .loop in (
       search needs,
-      lines-next _ _ _ (loop .r) (loop .at) (loop .inv .1) (g .name-at .ensures (omega (arith, e .pre .1))) (p .before .count-at .ensures)
+      lines-next _ _ _ (loop .r) (loop .at) (loop .inv .1) (g .name-at .ensures) (p .before .count-at .ensures)
           (p .put-count-from .ensures),
     )
 

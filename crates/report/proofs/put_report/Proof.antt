@@ -22,7 +22,7 @@ slice-reshare-prefix-put-counted c =
     let r = read .read-events in
     let args = entry .args in
     let pre = entry .pre in
-    let k = values-room _ (args .input .now) (pre .0) (args .list .now) _ (pre .2) _ (r .ensures .0) (r .ensures .1) _ (told .answer .given .1) b in
+    let k = values-room _ (args .input .now) (pre .0) (args .list .now) _ (pre .2) _ (r .ensures .0) (r .ensures .1) _ (told .answer .given .1) in
     omega (arith, r .kept, pre .2, k)
 
 slice-aggregate-put-counted : tie.Need-slice-aggregate-put-counted
@@ -33,7 +33,7 @@ slice-aggregate-put-counted c =
     let r = read .read-events in
     let args = entry .args in
     let pre = entry .pre in
-    let k = values-room _ (args .input .now) (pre .0) (args .list .now) _ (pre .2) _ (r .ensures .0) (r .ensures .1) _ (told .answer .given .1) b in
+    let k = values-room _ (args .input .now) (pre .0) (args .list .now) _ (pre .2) _ (r .ensures .0) (r .ensures .1) _ (told .answer .given .1) in
     sym (length-take-le (told .answer .given .0 .0) _ (omega (arith, r .kept, pre .2, k)))
 
 returns : tie.Need-returns
