@@ -1,5 +1,5 @@
--- The events of an input (01: "events of n tab-parted numbers; a line not so, or without LF (`events` itself too), is 23 with its line
--- number in the whole input").
+-- The events of an input (01: "events of n tab-parted numbers; a line not so, or without LF (`events` itself too), is 23 with its line number in the
+-- whole input; a number beyond 32 bits is spoilt").
 use Prim.Native.Nat.{ℕ, _+_}
 use mathlib.Core.Bool.{Bool, not, cond, _&&_}
 use mathlib.Core.List.{List, [], map, flatMap}

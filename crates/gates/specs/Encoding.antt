@@ -13,7 +13,7 @@ use Rattle.gates.specs.Quads.{dividerCount, dividerField, valueCount, di
 use Rattle.gates.specs.Tiling.{interval}
 use Rattle.gates.specs.Gate.{Leaf, rect, poly, ellip, quadrant}
 
--- a missing min is −65,536, a missing max 65,536
+-- 01: "A missing min is −65,536, a missing max 65,536"
 unfoldable pub minWord : List ℕ → ℤ
 minWord x = cond (isStar x) (negsuc 65535) (valueOf x)
 
@@ -37,7 +37,7 @@ lowerEnd fs t k = cond (eqb k 0) (negsuc 65535) (dividerValue fs t (k - 1))
 unfoldable pub upperEnd : List (List ℕ) → ℕ → ℕ → ℤ
 upperEnd fs t k = cond (eqb k (valueCount fs t)) (pos 65536) (dividerValue fs t k)
 
--- a quadrant is a box with one triple per divider, also for one it does not refer to
+-- 01: "A quadrant is a box with one triple per divider", also for a divider that it does not refer to
 unfoldable pub quadrantMin : List (List ℕ) → ℕ → ℕ → ℤ
 quadrantMin fs q t = cond (isStar (representative fs q t)) (negsuc 65535) (lowerEnd fs t (interval fs t (valueOf (representative fs q t))))
 

@@ -9,7 +9,7 @@ use native.Mathlib.Decide.{decLt}
 use lib.Dec.{leb}
 use lib.ListN.{length, getD, drop, length-drop, drop-of-length-le}
 use lib.Seq.{drop-cons, getD-drop}
-use Rattle.plans.specs.Form.{spans}
+use Rattle.plans.specs.Kinds.{spans}
 use Rattle.text.specs.Bytes.{every}
 use Rattle.text.specs.Lines.{lines}
 use Rattle.text.specs.Inner.Places.{lineFrom, findField}

@@ -10,7 +10,8 @@ use lib.ListN.{length, getD, take, drop}
 use lib.Seq.{take-append-seam}
 use borrow.Author.Tests.{leb-true}
 use Rattle.plans.specs.Refusals.{passed}
-use Rattle.plans.specs.Form.{spans, checkOf}
+use Rattle.plans.specs.Form.{checkOf}
+use Rattle.plans.specs.Kinds.{spans}
 use Rattle.plans.proofs.ReaderLaws.{check-reads}
 use Rattle.text.specs.Lines.{fields}
 use Rattle.text.specs.Output.{over}

@@ -13,7 +13,8 @@ use Rattle.plans.specs.Words.{word, number}
 use Rattle.integers.specs.Range.{inRange}
 use Rattle.plans.specs.Bits.{hasBit, withBit}
 use Rattle.plans.specs.Refusals.{passed, refused}
-use Rattle.plans.specs.Form.{spans, lengthGood, earlier, free, parentGood, operandWord, bodyWord, headWord, width, stepCount}
+use Rattle.plans.specs.Form.{earlier, free, parentGood, operandWord, bodyWord, headWord, width, stepCount}
+use Rattle.plans.specs.Kinds.{spans, lengthGood}
 use Rattle.plans.specs.Inner.Reader.{headRun, bodyRun, stepForm, stepsForm, readForm}
 use Rattle.plans.specs.declared.form.Stepped.{Stepped}
 use Rattle.plans.specs.declared.form.Stepped.the-variants.{Good, Bad}

@@ -10,7 +10,8 @@ use lib.IntN.{ℤ, pos}
 use lib.ListN.{length, getD, length-append}
 use lib.Seq.{getD-append-add, drop-append-add, take-append-seam}
 use Rattle.plans.specs.Words.{word, number, part}
-use Rattle.plans.specs.Form.{kindNumber, kindOf, known, lengthGood, kindAt, regionAt, lengthAt, bodyAt, nextAt}
+use Rattle.plans.specs.Form.{kindAt, regionAt, lengthAt, bodyAt, nextAt}
+use Rattle.plans.specs.Kinds.{kindNumber, kindOf, known, lengthGood}
 use Rattle.plans.specs.declared.Kind.{Kind}
 use Rattle.plans.specs.declared.Kind.the-variants.{Box, Polygon, Ellipse, And, Or, Not, Unknown}
 use Rattle.gates.specs.Gate.{Operand, Region}

@@ -1,4 +1,5 @@
--- Members of a region, from a table's own gates.
+-- Members of a region, from a table's own gates (01: "Members of a region are the events taken that lie in its shape and, where it has a parent, are members
+-- of the parent").
 use mathlib.Core.Bool.{Bool, true, false, not, _&&_, cond}
 use mathlib.Core.Option.{Option, none, some}
 use mathlib.Core.List.{List}

@@ -13,7 +13,8 @@ use Rattle.tables.specs.Table.{someOf, nthGate, names, gateReferences}
 unfoldable pub isIn : List Name → Name → Bool
 isIn l n = someOf (same n) l
 
--- g refers to h: it names a region of h; whoever names a quadrant refers to its gate
+-- g refers to h: it names a region of h (01: "A quadrant gate refers through its parent for all its quadrants, and whoever names a quadrant refers
+-- to its gate")
 unfoldable pub refersTo : Gate → Gate → Bool
 refersTo g h = someOf (isIn (names (gateRegions h))) (gateReferences g)
 

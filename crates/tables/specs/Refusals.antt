@@ -30,22 +30,22 @@ lineGood head ls i = eqb (refusalAt head ls i) noRefusal
 
 -- ---- 13 to 16: gate i
 
--- 13: the lines up to this one make at most 64 regions
+-- 13 crowded, "over 64 regions": the lines up to this one make at most 64
 unfoldable pub uncrowded : List Gate → ℕ → Bool
 uncrowded t i = leb (length (regions (upTo t i))) 64
 
--- 14: the names given up to this line are different
+-- 14 twin name, "gate or quadrant name used before": the names given up to this line are different
 unfoldable pub unrepeated : List Gate → ℕ → Bool
 unrepeated t i = different (given (upTo t i))
 
--- 15: each reference names a region
+-- 15 dead reference, "names no region (a quadrant gate is none)": each reference names a region
 unfoldable pub isRegion : List Gate → Name → Bool
 isRegion t n = ltb (numberOf (regions t) n) (length (regions t))
 
 unfoldable pub living : List Gate → ℕ → Bool
 living t i = every (isRegion t) (gateReferences (nthGate t i))
 
--- 16: it does not reach itself
+-- 16 circle, "a gate reaches itself": it does not
 unfoldable pub uncircled : List Gate → ℕ → Bool
 uncircled t i = not (reachesItself t i)
 

@@ -8,7 +8,7 @@ use lib.ListN.{length}
 use lib.Dec.{ltb}
 use Rattle.plans.specs.Indices.{firstBad}
 use Rattle.plans.specs.Bits.{hasBit, withBit}
-use Rattle.plans.specs.Form.{kindNumber}
+use Rattle.plans.specs.Kinds.{kindNumber}
 use Rattle.plans.specs.declared.Kind.{Kind}
 use Rattle.plans.specs.declared.Kind.the-variants.{And, Or, Not}
 use Rattle.text.specs.Bytes.{every}
@@ -16,7 +16,8 @@ use Rattle.gates.specs.Gate.{Name, Operand, Shape, leaf, and-of, or-of, not-of,
 use Rattle.gates.specs.Encoding.{leafKind, leafWords}
 use Rattle.tables.specs.Table.{nthRegion, numberOf, references}
 
--- ---- the order: written is the set of regions whose steps are written, as bits
+-- ---- the order (01: "The next step written is that of the lowest region not yet written whose parent and operands are"); written is the set of regions
+-- whose steps are written, as bits
 
 unfoldable pub isWritten : List Region → ℕ → Name → Bool
 isWritten rs written n = hasBit written (numberOf rs n)

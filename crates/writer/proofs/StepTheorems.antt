@@ -12,7 +12,7 @@ use lib.ListN.{length}
 use Rattle.text.specs.Bounded.{tab}
 use Rattle.text.proofs.TestLaws.{true≢false, and-left, and-right, passed-or-failed}
 use Rattle.text.proofs.BoundedLaws.{length-tab, tab-ext}
-use Rattle.plans.specs.Form.{kindNumber, spans, spansBy}
+use Rattle.plans.specs.Kinds.{kindNumber, spans, spansBy}
 use Rattle.plans.proofs.IndexLaws.{first-to}
 use Rattle.gates.specs.declared.LineKind.{LineKind}
 use Rattle.gates.specs.declared.LineKind.the-variants.{Rect, Poly, Ellip, Quad, And, Or, Not, Unknown}

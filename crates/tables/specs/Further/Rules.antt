@@ -1,4 +1,5 @@
--- Refusals 13 to 16 as what must not be: the rules that the gates of a table keep together (`passed-accepted` and `accepted-passed` in proofs/Acceptance say that they are those refusals).
+-- Refusals 13 to 16 as what must not be: the rules that the gates of a table keep together. `passed-accepted` and `accepted-passed` in
+-- proofs/Acceptance say that they are those refusals.
 use mathlib.Core.List.{List, [], _∷_}
 use Prim.Native.Nat.{_≤_}
 use lib.ListN.{length}

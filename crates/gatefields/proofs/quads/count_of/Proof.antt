@@ -2,7 +2,7 @@
 use native.Mathlib.Omega.{arith}
 use borrow.Author.Tests.{eq-eqb, le-leb}
 use Rattle.gates.specs.Quads.{countDigit}
-use Rattle.plans.specs.Form.{spans}
+use Rattle.plans.specs.Kinds.{spans}
 use Rattle.integers.proofs.Rules.{tests}
 use borrow.Author.Needs.{needs}
 use Rattle.gatefields.proofs.quads.count_of.Statement.{statement}
