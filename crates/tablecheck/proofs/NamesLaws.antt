@@ -1,20 +1,18 @@
 -- The first refusal that is found is the verdict's.
-use mathlib.Core.Path.{_≡_, refl, sym, ap, _∙_}
+use mathlib.Core.Path.{_≡_, sym, ap, _∙_}
 use mathlib.Core.Bool.{Bool, true}
-use mathlib.Core.List.{List, [], _∷_, map}
+use mathlib.Core.List.{List, []}
 use Prim.Native.Nat.{ℕ, zero, suc, _+_, _-_, _<_, _≤_, min}
 use native.Mathlib.Omega.{arith}
 use native.Mathlib.Decide.{decLt}
 use native.Mathlib.Nat.{zero-add}
 use lib.Dec.{leb}
-use lib.ListN.{length, getD, take, length-drop, length-take, length-map}
-use lib.Seq.{take-take, take-all, getD-take, ext-getD}
+use lib.ListN.{length, getD, take, length-drop}
+use lib.Seq.{take-take, take-all}
 use borrow.Author.Tests.{lt-ltb, le-ltb, leb-true, eqb-true}
 use Rattle.plans.specs.Indices.{firstBad}
 use Rattle.plans.specs.Refusals.{Verdict, refused}
 use Rattle.plans.proofs.IndexLaws.{first-at, first-before, first-is}
-use Rattle.text.specs.Bounded.{tab}
-use Rattle.text.proofs.BoundedLaws.{length-tab, getD-tab}
 use Rattle.text.specs.Lines.{lines, fields}
 use Rattle.gates.specs.Gate.{Gate, one, regions}
 use Rattle.gates.specs.Inner.Regions.{regionCount}
@@ -22,13 +20,13 @@ use Rattle.gates.specs.Rules.{noRefusal}
 use Rattle.gates.specs.Refusal.{lineRefusal}
 use Rattle.gates.proofs.GateLaws.{regions-some}
 use Rattle.tables.specs.Table.{upTo}
-use Rattle.tables.specs.Head.{dimensions, gateLines, lineGate, gates}
+use Rattle.tables.specs.Head.{dimensions, gateLines, gates}
 use Rattle.tables.specs.Refusals.{unlessLine, refusalAt, lineGood, always, uncrowded, unrepeated, living, uncircled}
-use Rattle.resolve.specs.Inner.Reading.{lineAt, fieldsAt, gatesAt}
+use Rattle.resolve.specs.Inner.Reading.{fieldsAt, gatesAt}
 use Rattle.tablecheck.specs.Inner.Names.{GoodLines}
 use Rattle.tablecheck.specs.Inner.TextVerdict.{namesVerdict}
 use Rattle.resolve.proofs.ReadLaws.{gates-up-to, count-more}
-use Rattle.resolve.proofs.StartLaws.{Indexed}
+use Rattle.resolve.proofs.StartLaws.{Indexed, gates-first, gates-count}
 use Rattle.resolve.proofs.CrowdLaws.{total-none}
 
 -- ---- one refusal
@@ -45,26 +43,6 @@ module _ (number : ℕ → ℕ) (good : ℕ → Bool) (k : ℕ) (v : Verdict) {f
 -- ---- the gates that are read, and their number
 
 module _ (text starts : List ℕ) (x : Indexed text starts) where
-  lines-read : (n : ℕ) → n ≤ 65 → n ≤ length (gateLines text) → tab (lineAt text starts) n ≡ take n (gateLines text)
-  lines-read n h l =
-      let k : length (take n (gateLines text)) ≡ n = length-take n (gateLines text) ∙ (let e : min n (length (gateLines text)) ≡ n = omega arith in e) in
-      ext-getD [] (tab (lineAt text starts) n) (take n (gateLines text)) (length-tab (lineAt text starts) n ∙ sym k)
-      (λ i u. let b : i < n = rw (length-tab (lineAt text starts) n) at u in
-      getD-tab (lineAt text starts) [] n i b ∙ x i (omega arith) (omega arith) ∙ sym (getD-take n (gateLines text) i [] b))
-
-  gates-first : (n : ℕ) → n ≤ 65 → n ≤ length (gateLines text) → gatesAt text starts n ≡ take n (gates text)
-  unfolding gatesAt gates
-  gates-first n h l = ap (map (lineGate (dimensions text))) (lines-read n h l) ∙ take-map n (gateLines text)
-    where
-      take-map : (m : ℕ) (ls : List (List ℕ)) → map (lineGate (dimensions text)) (take m ls) ≡ take m (map (lineGate (dimensions text)) ls)
-      take-map zero ls = refl
-      take-map (suc m) [] = refl
-      take-map (suc m) (a ∷ ls) = ap (λ (k : List Gate). lineGate (dimensions text) a ∷ k) (take-map m ls)
-
-  gates-count : length (gates text) ≡ length (gateLines text)
-  unfolding gates
-  gates-count = length-map (gateLines text) (lineGate (dimensions text))
-
   module _ (good : GoodLines text) where
     some-read : (i : ℕ) → i < 65 → i < length (gateLines text) → 1 ≤ regionCount (fieldsAt text starts i)
     unfolding fieldsAt lineGood refusalAt
@@ -81,7 +59,7 @@ module _ (text starts : List ℕ) (x : Indexed text starts) where
       unfolding uncrowded upTo
       same-crowd i h =
           let g : take (suc i) (gatesAt text starts n) ≡ take (suc i) (gates text) =
-          ap (take (suc i)) (gates-first n (omega arith) (omega arith)) ∙ take-take (suc i) n (gates text) (omega arith) in
+          ap (take (suc i)) (gates-first text starts x n (omega arith) (omega arith)) ∙ take-take (suc i) n (gates text) (omega arith) in
           rw g
 
       pub crowded-refused : f < n → (v : Verdict) → refused 13 (f + 2) ≡ namesVerdict (gates text) v
@@ -89,10 +67,10 @@ module _ (text starts : List ℕ) (x : Indexed text starts) where
       crowded-refused h v =
           let good = uncrowded (gatesAt text starts n) in
           let k : firstBad (uncrowded (gates text)) 0 (length (gates text)) ≡ f =
-          first-is (uncrowded (gates text)) 0 (length (gates text)) f (omega arith) (omega (arith, gates-count))
+          first-is (uncrowded (gates text)) 0 (length (gates text)) f (omega arith) (omega (arith, gates-count text starts x))
           (λ j _ l. sym (same-crowd j (omega arith)) ∙ first-before good 0 n j (omega arith) (rw c at l))
           (sym (same-crowd f h) ∙ rw c (first-at good 0 n (rw (zero-add, ← c) h))) in
-          sym (unless-here (always 13) (uncrowded (gates text)) (length (gates text)) _ (sym k) (omega (arith, gates-count)))
+          sym (unless-here (always 13) (uncrowded (gates text)) (length (gates text)) _ (sym k) (omega (arith, gates-count text starts x)))
 
       -- no gate crowds: they are all read, and have at most 64 regions
       module _ (h : n ≤ f) where
@@ -117,10 +95,10 @@ module _ (text starts : List ℕ) (x : Indexed text starts) where
         most = omega (arith, few, regions-least n (omega arith) (omega arith))
 
         pub number : length (gates text) ≡ n
-        number = omega (arith, most, gates-count)
+        number = omega (arith, most, gates-count text starts x)
 
         pub read : gatesAt text starts n ≡ gates text
-        read = gates-first n (omega arith) (omega (arith, number, gates-count)) ∙ take-all n (gates text) (omega (arith, number))
+        read = gates-first text starts x n (omega arith) (omega (arith, number, gates-count text starts x)) ∙ take-all n (gates text) (omega (arith, number))
 
         uncrowding : (v : Verdict) → unlessLine (always 13) (uncrowded (gates text)) (length (gates text)) v ≡ v
         uncrowding v = unless-past (always 13) (uncrowded (gates text)) (length (gates text)) v (c ∙ rw (read, number)) (omega (arith, number))

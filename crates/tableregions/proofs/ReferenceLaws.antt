@@ -133,6 +133,10 @@ gathered-all text starts n r {x} e h {line} l {end} d k row z g =
 
 -- ---- the rows of a table that is settled are those of its references
 
+or-false : (b : Bool) → (b || false) ≡ b
+or-false true = refl
+or-false false = refl
+
 with-bit : (set m k : ℕ) → m < 64 → hasBit (withBit set m) k ≡ (hasBit set k || eqb m k)
 with-bit set m k h =
     ⊎-elim (λ e. let z : k ≡ m = eqb-true k m e in rw (z, has-with-same set m h, eq-eqb m m refl) (sym (or-true (hasBit set m))))
@@ -143,17 +147,9 @@ with-bit set m k h =
     or-true true = refl
     or-true false = refl
 
-    or-false : (b : Bool) → (b || false) ≡ b
-    or-false true = refl
-    or-false false = refl
-
 with-numbers : (rs : List Region) (k : ℕ) (l : List Name) → ((x : Name) → x ∈ l → numberOf rs x < 64) → (set : ℕ)
     → hasBit (withNumbers rs set l) k ≡ (hasBit set k || someOf (λ (x : Name). eqb (numberOf rs x) k) l)
 with-numbers rs k [] h set = sym (or-false (hasBit set k))
-  where
-    or-false : (b : Bool) → (b || false) ≡ b
-    or-false true = refl
-    or-false false = refl
 with-numbers rs k (x ∷ l) h set =
     with-numbers rs k l (λ y m. h y (there m)) (withBit set (numberOf rs x))
     ∙ rw (with-bit set (numberOf rs x) k (h x (here refl))) (or-or (hasBit set k))

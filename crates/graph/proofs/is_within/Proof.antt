@@ -1,4 +1,4 @@
--- `is_within`.
+-- `is_within` meets its contract.
 use mathlib.Core.Path.{refl}
 use Rattle.graph.specs.Inner.Rows.{isSubset}
 use Rattle.graph.proofs.is_within.Statement.{statement}

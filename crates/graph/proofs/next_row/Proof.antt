@@ -1,4 +1,4 @@
--- `next_row`: the first that is not held is the first from r on.
+-- `next_row` meets its contract: the first that is not held is the first from r on.
 use borrow.Author.Needs.{needs}
 use Rattle.graph.proofs.RowLaws.{held-not, held-still}
 use Rattle.graph.specs.Inner.Rows.{held}

@@ -1,4 +1,4 @@
--- `no_rows`: the array is 64 zeros.
+-- `no_rows` meets its contract: the array is 64 zeros.
 use Rattle.graph.specs.Inner.Rows.{zeroRows}
 use borrow.Author.Needs.{needs}
 use Rattle.graph.proofs.no_rows.Statement.{statement}

@@ -1,4 +1,4 @@
--- `put_into`.
+-- `put_into` meets its contract.
 use borrow.Author.Needs.{needs}
 use Rattle.graph.proofs.put_into.Statement.{statement}
 use Rattle.graph.proofs.put_into.Tie as tie

@@ -1,4 +1,4 @@
--- `reach`: the rows are those of round s.
+-- `reach` meets its contract: the rows are those of round s.
 use Rattle.graph.proofs.RowLaws.{Round, round-first, round-next, round-length, rounds-past}
 use borrow.Author.Needs.{needs}
 use lib.ListN.{length}

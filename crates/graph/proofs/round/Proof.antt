@@ -1,4 +1,4 @@
--- `round`: rows below i are the new ones, those from i on the old.
+-- `round` meets its contract: rows below i are the new ones, those from i on the old.
 use borrow.Author.Needs.{needs}
 use Rattle.graph.proofs.RowLaws.{row-put, all-written}
 use Rattle.graph.specs.Inner.Rows.{joined}

@@ -1,4 +1,4 @@
--- `row_at`: past the end `getD` gives 0.
+-- `row_at` meets its contract: past the end `getD` gives 0.
 use mathlib.Core.Path.{_≡_, sym}
 use native.Mathlib.Omega.{arith}
 use lib.ListN.{length, List·getD-eq-default}

@@ -1,4 +1,4 @@
--- `end_in`.
+-- `end_in` meets its contract.
 use native.Mathlib.Omega.{arith}
 use borrow.Author.Needs.{needs}
 use Rattle.linenames.proofs.end_in.Statement.{statement}

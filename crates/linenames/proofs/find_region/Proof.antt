@@ -1,4 +1,4 @@
--- `find_region`.
+-- `find_region` meets its contract.
 use Rattle.linenames.proofs.SearchLaws.{region-here, region-other}
 use Rattle.linenames.specs.Inner.LineNames.{otherRegion, regionNamed}
 use Rattle.text.specs.Lines.{fields}

@@ -1,4 +1,4 @@
--- `gives_name`.
+-- `gives_name` meets its contract.
 use Rattle.linenames.specs.Inner.LineNames.{givesName}
 use borrow.Author.Needs.{needs}
 use Rattle.linenames.proofs.gives_name.Statement.{statement}

@@ -1,4 +1,4 @@
--- `has_reference`.
+-- `has_reference` meets its contract.
 use Rattle.linenames.specs.Inner.LineNames.{hasReference}
 use borrow.Author.Needs.{needs}
 use Rattle.linenames.proofs.has_reference.Statement.{statement}

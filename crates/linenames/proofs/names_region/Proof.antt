@@ -1,4 +1,4 @@
--- `names_region`.
+-- `names_region` meets its contract.
 use Rattle.linenames.specs.Inner.LineNames.{namesRegion}
 use borrow.Author.Needs.{needs}
 use Rattle.linenames.proofs.names_region.Statement.{statement}

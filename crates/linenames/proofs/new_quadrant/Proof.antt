@@ -1,4 +1,4 @@
--- `new_quadrant`.
+-- `new_quadrant` meets its contract.
 use Rattle.linenames.specs.Inner.LineNames.{newQuadrant}
 use borrow.Author.Needs.{needs}
 use Rattle.linenames.proofs.new_quadrant.Statement.{statement}

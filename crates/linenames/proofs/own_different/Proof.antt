@@ -1,4 +1,4 @@
--- `own_different`.
+-- `own_different` meets its contract.
 use Rattle.linenames.specs.Inner.LineNames.{newQuadrant, quadCount, ownDifferent}
 use Rattle.text.specs.Lines.{fields}
 use Rattle.plans.proofs.IndexLaws.{all-more, all-stop}

@@ -1,4 +1,4 @@
--- `quad_count`.
+-- `quad_count` meets its contract.
 use Rattle.linenames.specs.Inner.LineNames.{quadCount}
 use borrow.Author.Needs.{needs}
 use Rattle.linenames.proofs.quad_count.Statement.{statement}

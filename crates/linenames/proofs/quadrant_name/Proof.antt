@@ -1,4 +1,4 @@
--- `quadrant_name`.
+-- `quadrant_name` meets its contract.
 use Rattle.linenames.proofs.SearchLaws.{quadrant-read}
 use Rattle.text.specs.Lines.{fields}
 use mathlib.Core.Path.{_∙_}

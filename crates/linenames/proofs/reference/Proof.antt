@@ -1,4 +1,4 @@
--- `reference`.
+-- `reference` meets its contract.
 use Rattle.linenames.specs.Inner.LineNames.{referenceAt}
 use borrow.Author.Tests.{eq-eqb, ne-eqb}
 use borrow.Author.Needs.{needs}

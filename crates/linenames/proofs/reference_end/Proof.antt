@@ -1,4 +1,4 @@
--- `reference_end`.
+-- `reference_end` meets its contract.
 use Rattle.linenames.specs.Inner.LineNames.{referenceEnd}
 use borrow.Author.Needs.{needs}
 use Rattle.linenames.proofs.reference_end.Statement.{statement}

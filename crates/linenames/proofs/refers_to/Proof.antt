@@ -1,4 +1,4 @@
--- `refers_to`.
+-- `refers_to` meets its contract.
 use Rattle.linenames.proofs.SearchLaws.{passes-not, passes-still, refers-found, refers-none}
 use Rattle.linenames.specs.Inner.LineNames.{passesBy}
 use Rattle.text.specs.Lines.{fields}

@@ -1,4 +1,4 @@
--- `shares_name`.
+-- `shares_name` meets its contract.
 use Rattle.linenames.proofs.SearchLaws.{shared-is, shared-gate, shared-rest}
 use Rattle.linenames.specs.Inner.LineNames.{sharesQuadrant, quadCount}
 use Rattle.text.specs.Lines.{fields}

@@ -1,4 +1,4 @@
--- `line_at`.
+-- `line_at` meets its contract.
 use Rattle.resolve.specs.Inner.Reading.{lineAt}
 use borrow.Author.Needs.{needs}
 use Rattle.resolve.proofs.line_at.Statement.{statement}

@@ -1,4 +1,4 @@
--- `settle`.
+-- `settle` meets its contract.
 use borrow.Author.Needs.{needs}
 use Rattle.resolve.proofs.settle.Statement.{statement}
 use Rattle.resolve.proofs.settle.Tie as tie

@@ -1,4 +1,4 @@
--- `start_at`.
+-- `start_at` meets its contract.
 use lib.ListN.{length, List·getD-eq-default}
 use native.Mathlib.Omega.{arith}
 use mathlib.Core.Path.{_≡_, sym}

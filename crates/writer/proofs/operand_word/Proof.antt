@@ -1,4 +1,4 @@
--- `operand_word`: the region is held before it is doubled, so that the product fits.
+-- `operand_word` meets its contract: the region is held before it is doubled, so that the product fits.
 use native.Mathlib.Omega.{arith}
 use mir.Syntax.{w32}
 use mir.ValLaws.{toZ-ofZ}

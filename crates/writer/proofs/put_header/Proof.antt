@@ -1,4 +1,4 @@
--- `put_header`: four words, each at its index.
+-- `put_header` meets its contract: four words, each at its index.
 use mathlib.Core.Path.{refl}
 use native.Mathlib.Omega.{arith}
 use mir.Syntax.{w32}

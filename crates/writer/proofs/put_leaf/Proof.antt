@@ -1,4 +1,4 @@
--- `put_leaf`: the first i words of the body are written over the beginning.
+-- `put_leaf` meets its contract: the first i words of the body are written over the beginning.
 use mathlib.Core.Path.{_≡_, refl, sym, _∙_, ap}
 use Prim.Native.Nat.{_≤_, _-_}
 use native.Mathlib.Omega.{arith}

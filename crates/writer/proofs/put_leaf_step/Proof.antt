@@ -1,4 +1,4 @@
--- `put_leaf_step`: the rest behind the header is lent for the body, where there is one.
+-- `put_leaf_step` meets its contract: the rest behind the header is lent for the body, where there is one.
 use native.Mathlib.Omega.{arith}
 use lib.ListN.{drop}
 use Rattle.text.specs.Lines.{fields}

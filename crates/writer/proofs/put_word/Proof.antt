@@ -1,4 +1,4 @@
--- `put_word`: behind the end nothing is put.
+-- `put_word` meets its contract: behind the end nothing is put.
 use mathlib.Core.Path.{sym}
 use borrow.Author.Needs.{needs}
 use lib.Seq.{set-out}
