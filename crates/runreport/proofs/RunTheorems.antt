@@ -30,7 +30,7 @@ use Rattle.runreport.proofs.RunLaws.{count-most, accepted-passed}
 
 -- ---- how long a report is
 
-refused-length : (number place : ℕ) → length (refusedLine number place) ≤ 50
+pub refused-length : (number place : ℕ) → length (refusedLine number place) ≤ 50
 unfolding refusedLine
 refused-length number place = simp length-append (omega (arith, decimal-length number, decimal-length place))
 

@@ -1,0 +1,5 @@
+-- Laws of the definitions, and theorems about them.
+pub mod ProgressLaws
+pub mod TextLaws
+pub mod CompiledLaws
+pub mod LengthLaws
