@@ -14,10 +14,10 @@ fn room() -> [u8; 32769]
 }
 
 // Room for the text of a plan.
-fn text_room() -> [u8; 90112]
-    ensures { λ r. ⌜ 90112 ≡ length r ⌝ }
+fn text_room() -> [u8; 49152]
+    ensures { λ r. ⌜ 49152 ≡ length r ⌝ }
 {
-    [0; 90112]
+    [0; 49152]
 }
 
 // Writes the report of an input.

@@ -34,7 +34,8 @@ module _ (c : Compiled) (slice : List ℤ) where
   pub words-printed : {words m : ℕ} → c ≡ Written words m → compiledText c slice ≡ planText (take words slice)
   words-printed e = rw e
 
-  pub refusal-printed : (r : Refusal) {n k : ℕ} → c ≡ Refused r → n ≡ tableRefusal r .number → k ≡ tableRefusal r .place → compiledText c slice ≡ refusedLine n k
+  pub refusal-printed : (r : Refusal) {n k : ℕ} → c ≡ Refused r → n ≡ tableRefusal r .number → k ≡ tableRefusal r .place
+      → compiledText c slice ≡ refusedLine n k
   refusal-printed r e f g = rw (e, f, g)
 
 -- ---- an answer of compiling

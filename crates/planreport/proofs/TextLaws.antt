@@ -42,7 +42,7 @@ module _ (w : ℤ) (h : ltZ w (pos 0) ≡ true) (d : List ℕ) {a c : ℕ} {x y 
   unfolding wordText
   word-negative v u = rw h (written-more (bytes "-") d (decimal (natAbs w)) v u)
 
-pub word-length : (w : ℤ) → length (wordText w) ≤ 21
+word-length : (w : ℤ) → length (wordText w) ≤ 21
 unfolding wordText
 word-length w = go (ltZ w (pos 0))
   where
@@ -137,7 +137,8 @@ module _ (p : List ℤ) (left at : ℕ) (h : stepsEnd left p at ≡ length p) wh
       unfolding part
       step-length = length-take-le (4 + m) (drop at p) (simp length-drop (omega (arith, step-inside)))
 
-      pub steps-more : unlines (map wordsLine (stepParts left p at)) ≡ (wordsLine (part p at (4 + m)) ++ (10 ∷ [])) ++ unlines (map wordsLine (stepParts (left - 1) p (at + (4 + m))))
+      pub steps-more : unlines (map wordsLine (stepParts left p at))
+          ≡ (wordsLine (part p at (4 + m)) ++ (10 ∷ [])) ++ unlines (map wordsLine (stepParts (left - 1) p (at + (4 + m))))
       unfolding lengthAt
       steps-more =
           rw (parts-more, step-next, ← e)

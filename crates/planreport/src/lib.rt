@@ -32,7 +32,7 @@ fn plan_room() -> [i32; 4096]
     [0; 4096]
 }
 
-// Writes the report of a table over the beginning of out, as far as it goes, and answers how long it is: at most 90,112 bytes
+// Writes the report of a table over the beginning of out, as far as it goes, and answers how long it is: at most 49,152 bytes
 // (the theorem plan-report-fits).
 pub fn plan_report(table: &[u8], out: &mut [u8]) -> usize
     ensures { λ r. ⌜ Writes (planReportOf (now (table .entry))) (now (out .entry)) (now (out .exit)) r ⌝ }

@@ -74,4 +74,5 @@ pub tally-written : (k : ℕ) (t : Tally) (d : List ℕ) {a b c : ℕ} {x y z : 
     → WrittenFrom a (takenLine (t .taken)) x b y → WrittenFrom (a + b) (spoiltLine (t .spoilt)) y c z → Written (numberedTally k t) d (a + b + c) z
 unfolding numberedTally
 tally-written k t d w₁ w₂ w₃ =
-    written-more (numberLines (t .counts) k ++ takenLine (t .taken)) d (spoiltLine (t .spoilt)) (written-more (numberLines (t .counts) k) d (takenLine (t .taken)) w₁ w₂) w₃
+    written-more (numberLines (t .counts) k ++ takenLine (t .taken)) d (spoiltLine (t .spoilt))
+    (written-more (numberLines (t .counts) k) d (takenLine (t .taken)) w₁ w₂) w₃

@@ -61,7 +61,8 @@ module _ (k : ℕ) (c : Counted) where
   pub counted-passed : c .answer ≡ Passed → countText k (counting c) ≡ numberedTally k (c .tally)
   counted-passed e = rw e
 
-  pub counted-refused : (r : Refusal) {n p : ℕ} → c .answer ≡ Refused r → n ≡ refusal r .number → p ≡ refusal r .place → countText k (counting c) ≡ refusedLine n p
+  pub counted-refused : (r : Refusal) {n p : ℕ} → c .answer ≡ Refused r → n ≡ refusal r .number → p ≡ refusal r .place
+      → countText k (counting c) ≡ refusedLine n p
   counted-refused r e f g = refused-text (c .answer) r e f g (numberedTally k (c .tally))
 
 -- ---- the plan
@@ -151,7 +152,8 @@ answer-listed vs room lines = go (leb (length vs) room)
 
 -- what is printed of the events by a plan that passes
 module _ (p : List ℤ) (ok : checkOf p ≡ passed) where
-  answered : (es : Events) (room : ℕ) (c : Counted) → counting c ≡ countOf p (listed es) → answerText (answerOf es room) (countText (stepCount p) (counting c)) ≡ eventsText p es
+  answered : (es : Events) (room : ℕ) (c : Counted) → counting c ≡ countOf p (listed es)
+      → answerText (answerOf es room) (countText (stepCount p) (counting c)) ≡ eventsText p es
   answered (list vs) room c e = answer-listed vs room (countText (stepCount p) (counting c)) ∙ ap (countText (stepCount p)) e
   answered (ragged line) room c e = refl
 

@@ -24,7 +24,8 @@ digits-cut v w (c ∷ s) h = digits-cut (v * 10 + (c - 48)) (w * 10 + (c - 48)) 
 
 pub digits-more : (v i : ℕ) (s : List ℕ) → i < length s
     → min (digitsValue v (drop i s)) 4294967295 ≡ min (digitsValue (min (v * 10 + (getD s i 0 - 48)) 4294967295) (drop (i + 1) s)) 4294967295
-digits-more v i s h = rw (rest-cons s i 0 h) (digits-cut (v * 10 + (getD s i 0 - 48)) (min (v * 10 + (getD s i 0 - 48)) 4294967295) (drop (i + 1) s) (omega arith))
+digits-more v i s h = rw (rest-cons s i 0 h)
+    (digits-cut (v * 10 + (getD s i 0 - 48)) (min (v * 10 + (getD s i 0 - 48)) 4294967295) (drop (i + 1) s) (omega arith))
 
 -- ---- what fits
 

@@ -1,4 +1,5 @@
--- The text of a plan as it is read: lines ended by LF, each one or more tab-parted numbers that fit 32 bits; the words are the numbers in their order, whatever line they stand on.
+-- The text of a plan as it is read: lines ended by LF, each one or more tab-parted numbers that fit 32 bits; the words are the numbers
+-- in their order, whatever line they stand on.
 use Prim.Native.Nat.{ℕ, _+_}
 use mathlib.Core.Bool.{Bool, not, cond, _&&_}
 use mathlib.Core.List.{List, map, flatMap}

@@ -1,4 +1,4 @@
--- `print_report`: a report fits the 90,112 bytes.
+-- `print_report`: a report fits the 49,152 bytes.
 use mathlib.Core.Path.{sym}
 use native.Mathlib.Omega.{arith}
 use lib.Seq.{length-take-le}
@@ -17,7 +17,8 @@ slice-aggregate-write-all : tie.Need-slice-aggregate-write-all
 slice-aggregate-write-all c =
     let r = c .before .before in
     let b = r .before .before in
-    sym (length-take-le (r .plan-report .result) (r .plan-report .last .1 .0) (omega (arith, r .plan-report .ensures .0, r .plan-report .kept .1 .0, b .text-room .ensures, plan-report-fits (b .before .before .args .input .now))))
+    sym (length-take-le (r .plan-report .result) (r .plan-report .last .1 .0)
+    (omega (arith, r .plan-report .ensures .0, r .plan-report .kept .1 .0, b .text-room .ensures, plan-report-fits (b .before .before .args .input .now))))
 
 pub print-report-spec : {M : Type 1} → statement M
 print-report-spec =

@@ -17,7 +17,8 @@ slice-aggregate-write-all : tie.Need-slice-aggregate-write-all
 slice-aggregate-write-all c =
     let r = c .before .before in
     let b = r .before .before in
-    sym (length-take-le (r .run-report .result) (r .run-report .last .1 .0) (omega (arith, r .run-report .ensures .0, r .run-report .kept .1 .0, b .buffer .ensures, run-fits (b .before .before .args .input .now))))
+    sym (length-take-le (r .run-report .result) (r .run-report .last .1 .0)
+    (omega (arith, r .run-report .ensures .0, r .run-report .kept .1 .0, b .buffer .ensures, run-fits (b .before .before .args .input .now))))
 
 pub print-report-spec : {M : Type 1} → statement M
 print-report-spec =

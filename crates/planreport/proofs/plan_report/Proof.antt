@@ -17,7 +17,8 @@ returns c =
     let compiled = text .before .before .before .before in
     let room = compiled .before .before in
     let entry = room .before .before .before in
-    rw (compiled-printed (entry .args .table .now) (room .plan-room .result) _ (room .plan-room .ensures) (compiled .compile .result) (compiled .compile .ensures)) at (text .put-compiled .ensures)
+    rw (compiled-printed (entry .args .table .now) (room .plan-room .result) _ (room .plan-room .ensures) (compiled .compile .result)
+    (compiled .compile .ensures)) at (text .put-compiled .ensures)
 
 pub plan-report-spec : {M : Type 1} → statement M
 plan-report-spec =

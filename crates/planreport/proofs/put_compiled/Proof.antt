@@ -33,7 +33,8 @@ returns-2 c =
     let number = place .before in
     let told = number .before .before .before in
     let entry = told .before .before .before in
-    rw (refusal-printed (entry .args .compiled) (entry .args .plan .now) (told .compiled2 .given .0 .0) (told .compiled2 .given .1) (number .number-of .ensures) (place .place-of .ensures))
+    rw (refusal-printed (entry .args .compiled) (entry .args .plan .now) (told .compiled2 .given .0 .0) (told .compiled2 .given .1)
+    (number .number-of .ensures) (place .place-of .ensures))
     (line .put-refused .ensures)
 
 pub put-compiled-spec : {M : Type 1} → statement M

@@ -16,7 +16,8 @@ returns-2 c =
     let p = w .before in
     let n = p .before in
     let a = n .before .before .before in
-    rw (counted-refused _ (a .before .before .before .before .args .counted) (a .answer .given .0 .0) (a .answer .given .1) (n .number-of .ensures) (p .place-of .ensures))
+    rw (counted-refused _ (a .before .before .before .before .args .counted) (a .answer .given .0 .0) (a .answer .given .1) (n .number-of .ensures)
+    (p .place-of .ensures))
     (w .put-refused .ensures)
 
 pub put-counted-spec : {M : Type 1} → statement M

@@ -12,7 +12,8 @@ slice-reshare-prefix-count : tie.Need-slice-reshare-prefix-count
 slice-reshare-prefix-count c =
     let read = c .before .before in
     let entry = read .before .before .before .before .before in
-    let room = values-room _ (entry .args .input .now) (entry .args .list .now) (omega (arith, entry .pre .0, entry .pre .1)) (read .read-events .ensures .0) (read .read-events .ensures .1) (c .value-count .ensures) in
+    let room = values-room _ (entry .args .input .now) (entry .args .list .now) (omega (arith, entry .pre .0, entry .pre .1)) (read .read-events .ensures .0)
+    (read .read-events .ensures .1) (c .value-count .ensures) in
     omega (arith, read .read-events .kept, room)
 
 slice-aggregate-count : tie.Need-slice-aggregate-count
@@ -20,7 +21,8 @@ slice-aggregate-count c =
     let values = c .before in
     let read = values .before .before in
     let entry = read .before .before .before .before .before in
-    let room = values-room _ (entry .args .input .now) (entry .args .list .now) (omega (arith, entry .pre .0, entry .pre .1)) (read .read-events .ensures .0) (read .read-events .ensures .1) (values .value-count .ensures) in
+    let room = values-room _ (entry .args .input .now) (entry .args .list .now) (omega (arith, entry .pre .0, entry .pre .1)) (read .read-events .ensures .0)
+    (read .read-events .ensures .1) (values .value-count .ensures) in
     sym (length-take-le (values .value-count .result) _ (omega (arith, read .read-events .kept, room)))
 
 put-answer-requires : tie.Need-put-answer-requires
@@ -41,8 +43,10 @@ returns c =
     let plan = entry .args .plan .now in
     let input = entry .args .input .now in
     let list = entry .args .list .now in
-    let listed = values-are _ input list (omega (arith, entry .pre .0, entry .pre .1)) (read .read-events .ensures .0) (read .read-events .ensures .1) (values .value-count .ensures) in
-    rw (events-ran plan (entry .pre .2) input (length list) (count .count .result) (width-is plan (width .number-at .ensures)) (count-is plan (steps .number-at2 .ensures))
+    let listed = values-are _ input list (omega (arith, entry .pre .0, entry .pre .1)) (read .read-events .ensures .0) (read .read-events .ensures .1)
+    (values .value-count .ensures) in
+    rw (events-ran plan (entry .pre .2) input (length list) (count .count .result) (width-is plan (width .number-at .ensures))
+    (count-is plan (steps .number-at2 .ensures))
     (read .read-events .ensures .0) listed (count .count .ensures)) at (answer .put-answer .ensures)
 
 pub put-events-spec : {M : Type 1} → statement M

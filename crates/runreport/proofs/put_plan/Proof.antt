@@ -19,7 +19,8 @@ returns-2 c =
     let told = number .before .before .before in
     let form = told .before .before in
     let entry = form .before .before .before in
-    rw (plan-refused (entry .args .plan .now) (form .check .ensures) (told .form .given .0 .0) (told .form .given .1) (number .number-of .ensures) (place .place-of .ensures))
+    rw (plan-refused (entry .args .plan .now) (form .check .ensures) (told .form .given .0 .0) (told .form .given .1) (number .number-of .ensures)
+    (place .place-of .ensures))
     (line .put-refused .ensures)
 
 pub put-plan-spec : {M : Type 1} → statement M

@@ -21,21 +21,39 @@ returns c =
     let unread = test .before in
     let parted = unread .before .before in
     let entry = parted .before .before .before in
-    rw (run-unread (entry .args .input .now) (entry .pre .0) (part-is _ _ (parted .split .ensures .0)) (unread .unread-line .ensures) (test .if1 .taken)) at (line .put-unread .ensures)
+    rw (run-unread (entry .args .input .now) (entry .pre .0) (part-is _ _ (parted .split .ensures .0)) (unread .unread-line .ensures) (test .if1 .taken)) at
+    (line .put-unread .ensures)
 
 slice-reshare-prefix-put-plan : tie.Need-slice-reshare-prefix-put-plan
 slice-reshare-prefix-put-plan c =
     let words = c .before in
     let parted = words .before .before .before .before .before in
     let entry = parted .before .before .before in
-    omega (arith, words .put-words .kept, words .put-words .ensures .1, length-take-le (parted .split .result .table) (entry .args .input .now) (parted .split .ensures .1), entry .pre .0, entry .pre .1)
+    omega (
+      arith,
+      words .put-words .kept,
+      words .put-words .ensures .1,
+      length-take-le (parted .split .result .table) (entry .args .input .now)
+          (parted .split .ensures .1),
+      entry .pre .0,
+      entry .pre .1,
+    )
 
 slice-aggregate-put-plan : tie.Need-slice-aggregate-put-plan
 slice-aggregate-put-plan c =
     let words = c .before .before in
     let parted = words .before .before .before .before .before in
     let entry = parted .before .before .before in
-    sym (length-take-le (words .put-words .result) _ (omega (arith, words .put-words .kept, words .put-words .ensures .1, length-take-le (parted .split .result .table) (entry .args .input .now) (parted .split .ensures .1), entry .pre .0, entry .pre .1)))
+    sym (length-take-le (words .put-words .result) _
+    (omega (
+      arith,
+      words .put-words .kept,
+      words .put-words .ensures .1,
+      length-take-le (parted .split .result .table) (entry .args .input .now)
+          (parted .split .ensures .1),
+      entry .pre .0,
+      entry .pre .1,
+    )))
 
 returns-2 : tie.Need-returns-2
 returns-2 c =
@@ -50,7 +68,8 @@ returns-2 c =
     let few = length-take-le (parted .split .result .table) input (parted .split .ensures .1) in
     let plan = written-taken (wordsOf part) (entry .args .plan .now) (words .put-words .ensures .0)
     (omega (arith, words .put-words .ensures .0 .0, words .put-words .ensures .1, few, entry .pre .0, entry .pre .1)) in
-    rw (run-ran input (entry .pre .0) (part-is _ _ (parted .split .ensures .0)) (unread .unread-line .ensures) (test .if1 .left) _ plan) at (report .put-plan .ensures)
+    rw (run-ran input (entry .pre .0) (part-is _ _ (parted .split .ensures .0)) (unread .unread-line .ensures) (test .if1 .left) _ plan) at
+    (report .put-plan .ensures)
 
 pub put-run-spec : {M : Type 1} → statement M
 put-run-spec =

@@ -47,7 +47,8 @@ loop-again c =
     let entry = loop .before .before in
     let words = entry .args .words .now in
     let written = rw (toZ-ofZ w32 _ (record { sfits = value .put-word-from-arg2 .given })) at (word .put-word-from .ensures .0) in
-    let first = progress-more _ _ (wordText (getD words (loop .loop .i) (pos 0))) _ (loop .loop .inv .2) (ended-more words (loop .loop .i) (test .loop-test .taken)) written in (
+    let first = progress-more _ _ (wordText (getD words (loop .loop .i) (pos 0))) _ (loop .loop .inv .2)
+    (ended-more words (loop .loop .i) (test .loop-test .taken)) written in (
       omega arith,
       omega (arith, loop .loop .inv .1, word .put-word-from .ensures .1),
       progress-more _ _ (_ ∷ []) (endedWords (drop (loop .loop .i + 1) words)) first refl (end .put-end .ensures),

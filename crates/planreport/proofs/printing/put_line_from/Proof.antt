@@ -7,8 +7,14 @@ use Rattle.planreport.proofs.printing.put_line_from.Tie as tie
 returns : tie.Need-returns
 returns c =
     let line = c .before .before in
-    let cut = line .before .before in
-    ((line .put-line .ensures .0 .0, over-lent _ _ (cut .lesser .result) (cut .lesser .ensures) _ _ (line .put-line .ensures .0 .1)), line .put-line .ensures .1)
+    let cut = line .before .before in (
+      (
+        line .put-line .ensures .0 .0,
+        over-lent _ _ (cut .lesser .result) (cut .lesser .ensures) _ _
+            (line .put-line .ensures .0 .1),
+      ),
+      line .put-line .ensures .1,
+    )
 
 pub put-line-from-spec : {M : Type 1} → statement M
 put-line-from-spec =

@@ -48,7 +48,8 @@ loop-again c =
     let brief = count-short _ (count .put-count-from .ensures .0) in (
       omega arith,
       omega (arith, loop .loop .inv .1, short, brief),
-      lines-written (entry .args .tally .counts) (entry .args .out .now) (loop .loop .r) (loop .loop .inv .2) (number .put-number-from .ensures) (count .before .count-at .ensures) (count .put-count-from .ensures),
+      lines-written (entry .args .tally .counts) (entry .args .out .now) (loop .loop .r) (loop .loop .inv .2) (number .put-number-from .ensures)
+          (count .before .count-at .ensures) (count .put-count-from .ensures),
     )
 
 same-length : tie.Need-same-length Inv-loop μ-loop

@@ -27,7 +27,8 @@ returns c =
     let taken = spoilt .before .before .before .before in
     let regions = taken .before .before .before .before in
     let entry = regions .before .before .before in
-    tally-written (entry .args .k) (entry .args .tally) (entry .args .out .now) (regions .put-regions .ensures .0) (taken .put-taken .ensures) (spoilt .put-spoilt .ensures)
+    tally-written (entry .args .k) (entry .args .tally) (entry .args .out .now) (regions .put-regions .ensures .0) (taken .put-taken .ensures)
+    (spoilt .put-spoilt .ensures)
 
 pub put-tally-spec : {M : Type 1} → statement M
 put-tally-spec =

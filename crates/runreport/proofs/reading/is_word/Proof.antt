@@ -9,7 +9,8 @@ returns c =
     let digits = c .before in
     let sign = digits .before .before in
     let form = sign .before in
-    word-tested (form .before .before .args .s .now) (form .is-number .ensures) (sign .negative .ensures) (digits .before .unsigned .ensures) (digits .magnitude .ensures) (c .fits2 .ensures)
+    word-tested (form .before .before .args .s .now) (form .is-number .ensures) (sign .negative .ensures) (digits .before .unsigned .ensures)
+    (digits .magnitude .ensures) (c .fits2 .ensures)
 
 pub is-word-spec : {M : Type 1} → statement M
 is-word-spec =

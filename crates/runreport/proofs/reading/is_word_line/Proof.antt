@@ -26,7 +26,8 @@ returns : tie.Need-returns Inv-loop μ-loop
 unfolding isWordLine
 returns c =
     let l = c .before .before .before .before in
-    sym (l .loop .inv .1 ∙ every-fails (fields (l .before .before .before .args .line .now)) (l .loop .k) [] isWord (omega arith) (rw (c .before .before .field .ensures) at (sym (c .before .is-word .ensures)) ∙ not-true _ (c .if1 .taken)))
+    sym (l .loop .inv .1 ∙ every-fails (fields (l .before .before .before .args .line .now)) (l .loop .k) [] isWord (omega arith)
+    (rw (c .before .before .field .ensures) at (sym (c .before .is-word .ensures)) ∙ not-true _ (c .if1 .taken)))
 
 loop-again : tie.Need-loop-again Inv-loop μ-loop
 loop-again c =
@@ -34,7 +35,8 @@ loop-again c =
     let s = l .before .before .before .args .line .now in (
       l .loop .inv .0,
       l .loop .inv .1
-          ∙ every-goes-on (fields s) (l .loop .k) [] isWord (omega arith) (rw (c .before .before .field .ensures) at (sym (c .before .is-word .ensures)) ∙ not-false _ (c .if1 .left)),
+          ∙ every-goes-on (fields s) (l .loop .k) [] isWord (omega arith)
+          (rw (c .before .before .field .ensures) at (sym (c .before .is-word .ensures)) ∙ not-false _ (c .if1 .left)),
     )
 
 returns-2 : tie.Need-returns-2 Inv-loop μ-loop

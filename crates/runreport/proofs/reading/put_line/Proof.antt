@@ -32,7 +32,13 @@ loop-again c =
     let a = l .before .before .before .args in (
       l .loop .inv .0,
       omega arith,
-      rw (w .put-word .ensures, toZ-ofZ w32 _ (record { sfits = w .before .read-word .ok }), l .loop .inv .2, w .before .read-word .ensures, w .before .before .field .ensures)
+      rw (
+        w .put-word .ensures,
+        toZ-ofZ w32 _ (record { sfits = w .before .read-word .ok }),
+        l .loop .inv .2,
+        w .before .read-word .ensures,
+        w .before .before .field .ensures,
+      )
           (line-more (a .line .now) (a .rest .now) (l .loop .k) (omega arith)),
     )
 

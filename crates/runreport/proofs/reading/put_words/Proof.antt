@@ -33,7 +33,8 @@ add-m c =
     let a = l .before .before .args in
     omega (
       arith,
-      few-more lineWords (wordsOf (a .part .now)) (a .part .now) (a .plan .now) (l .loop .at) (l .loop .m) (l .loop .inv) (w .before .before .before .loop-test .taken) (lineWords-few _) (rw (w .before .line-from .ensures) at (w .put-line-from .ensures .0)),
+      few-more lineWords (wordsOf (a .part .now)) (a .part .now) (a .plan .now) (l .loop .at) (l .loop .m) (l .loop .inv)
+          (w .before .before .before .loop-test .taken) (lineWords-few _) (rw (w .before .line-from .ensures) at (w .put-line-from .ensures .0)),
       found-inside (a .part .now) (l .loop .at) 10 (c .find .ensures) (omega arith),
     )
 
@@ -46,7 +47,8 @@ loop-again : tie.Need-loop-again Inv-loop μ-loop
 loop-again c =
     let w = c .before .before in
     let l = w .before .before .before .before in
-    filled-more _ _ _ _ (l .loop .at) (l .loop .m) (l .loop .inv) (w .before .before .before .loop-test .taken) (lineWords-few _) (rw (w .before .line-from .ensures) at (w .put-line-from .ensures .0))
+    filled-more _ _ _ _ (l .loop .at) (l .loop .m) (l .loop .inv) (w .before .before .before .loop-test .taken) (lineWords-few _)
+    (rw (w .before .line-from .ensures) at (w .put-line-from .ensures .0))
     _ (c .find .ensures) _ (rw (w .before .line-from .ensures) at (w .put-line-from .ensures .1))
 
 same-length : tie.Need-same-length Inv-loop μ-loop

@@ -17,7 +17,8 @@ returns-2 c =
     let sign = digits .before .before in
     let form = sign .before in
     toZ-ofZ w32 _ (record { sfits = c .word .ok })
-    ∙ word-read (form .before .before .before .args .s .now) (form .before .is-number .ensures) (sign .negative .ensures) (digits .before .unsigned .ensures) (digits .magnitude .ensures)
+    ∙ word-read (form .before .before .before .args .s .now) (form .before .is-number .ensures) (sign .negative .ensures) (digits .before .unsigned .ensures)
+    (digits .magnitude .ensures)
     (not-false _ (form .if1 .left)) (c .word .ensures)
 
 pub read-word-spec : {M : Type 1} → statement M

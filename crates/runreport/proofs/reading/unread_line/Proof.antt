@@ -26,7 +26,8 @@ add-result c = omega (arith, c .before .before .before .before .loop .inv .below
 returns : tie.Need-returns Inv-loop μ-loop
 returns c =
     let l = c .before .before .before .before in
-    unread-found _ (l .loop .at) (l .loop .k) (l .loop .inv) (c .before .before .before .loop-test .taken) (rw (c .before .is-word-line .ensures, c .before .before .line-from .ensures) at (c .if1 .taken))
+    unread-found _ (l .loop .at) (l .loop .k) (l .loop .inv) (c .before .before .before .loop-test .taken)
+    (rw (c .before .is-word-line .ensures, c .before .before .line-from .ensures) at (c .if1 .taken))
 
 add-at : tie.Need-add-at Inv-loop μ-loop
 add-at c =
@@ -51,12 +52,14 @@ loop-again c =
 returns-2 : tie.Need-returns-2 Inv-loop μ-loop
 returns-2 c =
     let l = c .before .before .before in
-    unread-open _ (l .loop .at) (l .loop .k) (l .loop .inv) (c .before .before .loop-test .left) (sym (c .before .ends-in-lf .ensures) ∙ not-true _ (c .if2 .taken))
+    unread-open _ (l .loop .at) (l .loop .k) (l .loop .inv) (c .before .before .loop-test .left)
+    (sym (c .before .ends-in-lf .ensures) ∙ not-true _ (c .if2 .taken))
 
 returns-3 : tie.Need-returns-3 Inv-loop μ-loop
 returns-3 c =
     let l = c .before .before .before in
-    unread-none _ (l .loop .at) (l .loop .k) (l .loop .inv) (c .before .before .loop-test .left) (sym (c .before .ends-in-lf .ensures) ∙ not-false _ (c .if2 .left))
+    unread-none _ (l .loop .at) (l .loop .k) (l .loop .inv) (c .before .before .loop-test .left)
+    (sym (c .before .ends-in-lf .ensures) ∙ not-false _ (c .if2 .left))
 
 pub unread-line-spec : {M : Type 1} → statement M
 unread-line-spec =
