@@ -7,3 +7,4 @@ pub mod AnswerLaws
 pub mod PrintingLaws
 pub mod EventTheorems
 pub mod Examples
+pub mod CountedLaws

@@ -16,7 +16,7 @@ fn put_bytes_from(rest: &mut [u8], a: usize, s: &[u8]) -> usize
 }
 
 // Writes the digits of x from index a on, as far as rest goes, and answers how many there are.
-fn put_number_from(rest: &mut [u8], a: usize, x: u64) -> usize
+pub fn put_number_from(rest: &mut [u8], a: usize, x: u64) -> usize
     ensures { λ r. ⌜ WritesFrom a (decimal x) (now (rest .entry)) (now (rest .exit)) r ⌝ }
 {
     let b = lesser(a, rest.len());

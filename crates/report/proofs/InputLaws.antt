@@ -5,17 +5,14 @@ use mathlib.Core.List.{List, map}
 use Prim.Native.Nat.{ℕ, _<_, _≤_}
 use native.Mathlib.Omega.{arith}
 use lib.Dec.{leb}
-use lib.IntN.{ℤ, pos, negsuc}
+use lib.IntN.{ℤ}
 use lib.ListN.{length, take, drop, length-map}
 use lib.Seq.{take-append-seam}
 use borrow.Author.Tests.{lt-ltb, le-ltb, le-leb}
 use Rattle.text.specs.Numbers.{clamp}
 use Rattle.text.specs.Output.{over}
 use Rattle.text.proofs.OutputLaws.{over-fits}
-use Rattle.text.proofs.NumbersLaws.{within-event, clamp-within}
-use Rattle.plans.specs.Words.{onScale}
-use Rattle.counter.specs.Counting.{Counting, countOf}
-use Rattle.counter.proofs.KeptLaws.{count-kept}
+use Rattle.counter.specs.Counting.{Counting}
 use Rattle.gates.specs.Gate.{regions}
 use Rattle.tables.specs.Head.{dimensions, gates}
 use Rattle.tables.specs.Refusals.{tableVerdict}
@@ -28,6 +25,7 @@ use Rattle.events.specs.declared.parting.Parted.{Parted}
 use Rattle.events.specs.declared.listing.Answer.{Answer}
 use Rattle.events.specs.declared.listing.Answer.the-variants.{Values, Ragged, Short}
 use Rattle.events.proofs.EventTheorems.{values-few}
+use Rattle.events.proofs.CountedLaws.{count-clamped}
 use Rattle.report.specs.Report.{unlessRefused, countedLines, printed, reportOf}
 
 -- ---- over 65,536 bytes, or not
@@ -60,11 +58,7 @@ module _ (n : ℕ) (input : List ℕ) (h : length input ≤ 65536) where
 
 -- ---- what reading the events answered
 
--- counting the values as they are kept is counting the values
-count-clamped : (p values : List ℤ) → countOf p (map clamp values) ≡ countOf p values
-unfolding onScale
-count-clamped = count-kept clamp within-event (λ v w. clamp-within (negsuc 65535) (pos 65535) v (omega arith) (omega arith) w)
-
+-- counting the values as they are kept prints what counting the values does
 kept-printed : (table : List ℕ) (vs : List ℤ) → printed table (list (map clamp vs)) ≡ printed table (list vs)
 unfolding printed
 kept-printed table vs =

@@ -1,0 +1,4 @@
+-- What `gateplan` prints.
+pub mod PlanText
+pub mod PlanReport
+pub mod Inner
