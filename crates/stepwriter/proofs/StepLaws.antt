@@ -1,5 +1,5 @@
 -- The words that are written for a region: operand by operand, by the kind of its line; of a settled table they are its step.
-use mathlib.Core.Path.{_≡_, refl, ap}
+use mathlib.Core.Path.{_≡_, refl, ap, _∙_}
 use mathlib.Core.Bool.{Bool, true, false, not}
 use mathlib.Core.List.{List, [], _++_}
 use Prim.Native.Nat.{ℕ, _+_, _≤_, _<_, min}
@@ -42,17 +42,23 @@ operand-more k r p m rs fs d j e f y number b = rw (number, y, b, f, e) (step-mo
 
 module _ (text starts : List ℕ) (n gate quadrant region : ℕ) {line : List ℕ} (a : line ≡ lineAt text starts gate) {parent : ℕ}
     (p : parent ≡ parentNumber (regionsAt text starts n) (fields line)) {c : Bool} (k : c ≡ combines (lineKind (fields line))) where
-  pub combination-is : c ≡ true
-      → stepBy (fields line) region parent (operandAt (regionsAt text starts n) (fields line))
-      ≡ lineStep (dimensions text) (regionsAt text starts n) (fieldsAt text starts gate) quadrant region
-  unfolding lineStep fieldsAt
-  combination-is t = rw (← a, ← p, ← k, t)
+  -- what is promised where d was lent, with x afterwards, and r answered
+  module _ (d : List ℤ) {x : List ℤ} {r : ℕ} where
+    joined : (q : List ℤ) → q ≡ lineStep (dimensions text) (regionsAt text starts n) (fieldsAt text starts gate) quadrant region → Writes q d x r
+        → Writes (lineStep (dimensions text) (regionsAt text starts n) (fieldsAt text starts gate) quadrant region) d x r
+    joined q e w = (w .0 ∙ ap length e, w .1 ∙ ap (λ (l : List ℤ). over l d) e)
 
-  pub leaf-is : c ≡ false → {head : List ℕ} → head ≡ getD (lines text) 0 []
-      → stepBy (fields line) region parent (bodyWordOf (drop 1 (fields head)) (fields line) quadrant)
-      ≡ lineStep (dimensions text) (regionsAt text starts n) (fieldsAt text starts gate) quadrant region
-  unfolding lineStep fieldsAt dimensions headFields
-  leaf-is t g = rw (← a, ← p, ← k, t, ← g)
+    pub combination-written : c ≡ true → Writes (stepBy (fields line) region parent (operandAt (regionsAt text starts n) (fields line))) d x r
+        → Writes (lineStep (dimensions text) (regionsAt text starts n) (fieldsAt text starts gate) quadrant region) d x r
+    unfolding lineStep fieldsAt
+    combination-written t w = joined (stepBy (fields line) region parent (operandAt (regionsAt text starts n) (fields line))) (rw (← a, ← p, ← k, t)) w
+
+    pub leaf-written : c ≡ false → {head : List ℕ} → head ≡ getD (lines text) 0 []
+        → Writes (stepBy (fields line) region parent (bodyWordOf (drop 1 (fields head)) (fields line) quadrant)) d x r
+        → Writes (lineStep (dimensions text) (regionsAt text starts n) (fieldsAt text starts gate) quadrant region) d x r
+    unfolding lineStep fieldsAt dimensions headFields
+    leaf-written t {head} g w =
+        joined (stepBy (fields line) region parent (bodyWordOf (drop 1 (fields head)) (fields line) quadrant)) (rw (← a, ← p, ← k, t, ← g)) w
 
 -- ---- of a settled table
 

@@ -41,6 +41,10 @@ reaches-same f g n e (suc s) l a b h k =
 abbrev pub unlooped : List ℕ → ℕ → Bool
 unlooped rows i = not (hasBit (getD rows i 0) i)
 
+-- the test of row i
+pub looped-as : (rows : List ℕ) (i : ℕ) {row : ℕ} → row ≡ getD rows i 0 → {b : Bool} → b ≡ hasBit row i → {c : Bool} → b ≡ c → unlooped rows i ≡ not c
+looped-as rows i e t f = rw (← e, ← t, f)
+
 module _ (text starts : List ℕ) (n : ℕ) where
   refers-is : (a b : ℕ) → a < n → b < n → refersBy text starts a b ≡ refersAt (gatesAt text starts n) a b
   unfolding refersBy refersAt

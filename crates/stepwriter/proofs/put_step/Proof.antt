@@ -1,7 +1,6 @@
 -- `put_step` meets its contract: by the kind of the line.
 use borrow.Author.Needs.{needs}
-use Rattle.stepwriter.proofs.StepLaws.{combination-is, leaf-is}
-use mathlib.Core.Path.{ap, _∙_}
+use Rattle.stepwriter.proofs.StepLaws.{combination-written, leaf-written}
 use Rattle.stepwriter.proofs.put_step.Statement.{statement}
 use Rattle.stepwriter.proofs.put_step.Tie as tie
 
@@ -11,10 +10,8 @@ returns c =
     let i = put .before .before in
     let parent = i .before .before in
     let a = parent .before .before .before .args in
-    let w = put .put-combination-step .ensures in
-    let words = combination-is (a .text .now) (a .starts .at) (a .n) (a .gate) (a .quadrant) (a .region) (parent .before .line-at .ensures)
-    (parent .parent-number .ensures) (i .before .has-operands .ensures) (i .if1 .taken) in
-    rw words at w
+    combination-written (a .text .now) (a .starts .at) (a .n) (a .gate) (a .quadrant) (a .region) (parent .before .line-at .ensures)
+    (parent .parent-number .ensures) (i .before .has-operands .ensures) (a .rest .now) (i .if1 .taken) (put .put-combination-step .ensures)
 
 returns-2 : tie.Need-returns-2
 returns-2 c =
@@ -23,11 +20,8 @@ returns-2 c =
     let i = head .before .before in
     let parent = i .before .before in
     let a = parent .before .before .before .args in
-    let w = put .put-leaf-step .ensures in
-    let words = leaf-is (a .text .now) (a .starts .at) (a .n) (a .gate) (a .quadrant) (a .region) (parent .before .line-at .ensures)
-    (parent .parent-number .ensures) (i .before .has-operands .ensures) (i .if1 .left)
-    (head .head-line .ensures) in
-    rw words at w
+    leaf-written (a .text .now) (a .starts .at) (a .n) (a .gate) (a .quadrant) (a .region) (parent .before .line-at .ensures)
+    (parent .parent-number .ensures) (i .before .has-operands .ensures) (a .rest .now) (i .if1 .left) (head .head-line .ensures) (put .put-leaf-step .ensures)
 
 pub put-step-spec : {M : Type 1} → statement M
 put-step-spec =

@@ -1,6 +1,6 @@
 -- `first_circled` meets its contract: no row before i has its own bit.
 use borrow.Author.Needs.{needs}
-use Rattle.tablecheck.proofs.CircleLaws.{unlooped, circles-are}
+use Rattle.tablecheck.proofs.CircleLaws.{unlooped, looped-as, circles-are}
 use Rattle.plans.proofs.IndexLaws.{first-more, first-stop, first-end}
 use Rattle.plans.specs.Indices.{firstBad}
 use native.Mathlib.Nat.{sub-zero}
@@ -43,7 +43,7 @@ returns c =
     sym (sym (circles-are (entry .args .text .now) (entry .args .starts .at) n (gate-rows .result .bits)
     (reach .result .bits) (gate-rows .ensures) (reach .ensures)) ∙ j .inv .1
     ∙ first-stop (unlooped (reach .result .bits)) n (j .i) (loop-test .taken)
-    (rw (← row-in .ensures, ← c .before .has-bit .ensures, c .if1 .taken)))
+    (looped-as (reach .result .bits) (j .i) (row-in .ensures) (c .before .has-bit .ensures) (c .if1 .taken)))
 
 add-i : tie.Need-add-i Inv-loop μ-loop
 add-i c = search needs
@@ -61,7 +61,7 @@ loop-again c =
     let j = head in (
       search needs,
       j .inv .1 ∙ first-more (unlooped (reach .result .bits)) (entry .args .n) (j .i) (loop-test .taken)
-          (rw (← row-in .ensures, ← c .before .has-bit .ensures, c .if1 .left)),
+          (looped-as (reach .result .bits) (j .i) (row-in .ensures) (c .before .has-bit .ensures) (c .if1 .left)),
     )
 
 returns-2 : tie.Need-returns-2 Inv-loop μ-loop
