@@ -67,13 +67,9 @@ put-line-from-requires c κs =
     let entry = loop .before .before .before .before .before .before .before .before in
     let plan = entry .args .plan .now in
     let inside = step-inside plan (loop .loop .left) (loop .loop .word) (loop .loop .inv .1) (test .loop-test .taken) (number .number-at2 .ensures) in
+    let long = step-length plan (loop .loop .left) (loop .loop .word) (loop .loop .inv .1) (test .loop-test .taken) (number .number-at2 .ensures) in
     let few = plan-few plan (entry .pre) in
-    rw (
-      c .part-at2 .ensures,
-      step-length plan (loop .loop .left) (loop .loop .word) (loop .loop .inv .1) (test .loop-test .taken)
-          (number .number-at2 .ensures),
-    )
-    (omega arith, omega arith)
+    rw (c .part-at2 .ensures) (omega arith, omega arith)
 
 add-at : tie.Need-add-at Inv-loop μ-loop
 add-at c =
