@@ -1,9 +1,9 @@
 -- How long a plan's text is.
-use mathlib.Core.Path.{_≡_, refl, sym, _∙_, ap}
-use mathlib.Core.Bool.{Bool, true, false, cond}
+use mathlib.Core.Path.{_≡_, sym, _∙_, ap}
+use mathlib.Core.Bool.{true, false}
 use mathlib.Core.Logic.{_⊎_, inl, inr, ⊎-elim}
 use mathlib.Core.List.{List, [], _∷_, _++_, map}
-use Prim.Native.Nat.{ℕ, zero, suc, _+_, _-_, _*_, _/_, _^_, _≤_, _<_}
+use Prim.Native.Nat.{ℕ, zero, suc, _+_, _*_, _/_, _^_, _≤_, _<_}
 use native.Mathlib.Nat.{mul-add, mul-suc}
 use native.Mathlib.Omega.{arith}
 use lib.Dec.{eqb}
@@ -23,7 +23,6 @@ use Rattle.tables.specs.Refusals.{tableVerdict}
 use Rattle.tables.specs.Compile.{planOf}
 use Rattle.tables.proofs.CompileLaws.{plan-passes}
 use Rattle.compiler.proofs.VerdictLaws.{number-accepted}
-use Rattle.events.specs.Printing.{refusedLine}
 use Rattle.report.specs.Report.{unlessRefused}
 use Rattle.runreport.specs.PlanReading.{fitsWord}
 use Rattle.runreport.proofs.RunLaws.{head-there}

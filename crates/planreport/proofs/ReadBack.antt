@@ -1,23 +1,26 @@
 -- What is read of a plan's text is the plan: each word from its digits, each line from its words, the plan from its lines.
 use mathlib.Core.Path.{_≡_, refl, sym, _∙_, ap, ap₂}
-use mathlib.Core.Bool.{Bool, true, false, not, cond, _&&_, _||_}
+use mathlib.Core.Bool.{Bool, true, false, not, _||_}
 use mathlib.Core.Logic.{_⊎_, inl, inr, ⊎-elim}
-use mathlib.Core.List.{List, [], _∷_, _++_, map, flatMap, append-assoc}
+use mathlib.Core.List.{List, [], _∷_, _++_, map, flatMap}
 use Prim.Native.Nat.{ℕ, zero, suc, _+_, _-_, _≤_, _<_, _^_}
 use native.Mathlib.Omega.{arith}
 use lib.Dec.{eqb, ltb, leb}
 use lib.IntN.{ℤ, pos, negsuc, negℤ}
 use lib.ListN.{length, getD, take, drop, take-append-drop, length-append, length-map, drop-of-length-le}
 use lib.Seq.{drop-drop, getD-append-add}
-use borrow.Author.Tests.{lt-ltb, le-ltb, le-leb, leb-true, eq-eqb, ne-eqb, not-true}
+use borrow.Author.Tests.{le-ltb, leb-true, eq-eqb, ne-eqb, not-true}
 use Rattle.text.specs.Bytes.{bytes, same, every, before}
 use Rattle.text.specs.Inner.Counts.{without}
 use Rattle.text.specs.Numbers.{isDigit, isNegative, unsigned, isPositive, isNumber, digitsValue, numberValue}
+<<<<<<< HEAD
 use Rattle.integers.specs.Range.{inRange}
 use Rattle.text.specs.Lines.{push, parts, fields, lines, unlines, endsInLF}
 use Rattle.text.specs.Inner.Joining.{unfields}
+=======
+>>>>>>> wt-D
 use Rattle.text.specs.Output.{decimal}
-use Rattle.text.proofs.TestLaws.{true≢false, and-left, and-right, passed-or-failed, lt-or-ge}
+use Rattle.text.proofs.TestLaws.{and-left, and-right, passed-or-failed, lt-or-ge}
 use Rattle.text.proofs.BytesLaws.{same-eq}
 use Rattle.text.proofs.OutputLaws.{decimal-low}
 use Rattle.text.proofs.TextTheorems.{lines-unlines, decimal-number, decimal-value}

@@ -1,12 +1,12 @@
 -- Laws of an input whose part before the line `events` is put in another's place: lines that are not `events`, then that line and what follows.
 use mathlib.Core.Path.{_≡_, refl, sym, _∙_, ap}
-use mathlib.Core.Bool.{Bool, true, false, not, cond}
+use mathlib.Core.Bool.{Bool, true, false, not}
 use mathlib.Core.Logic.{_⊎_, inl, inr}
 use mathlib.Core.List.{List, [], _∷_, _++_, append-assoc, append-nil}
-use Prim.Native.Nat.{ℕ, zero, suc, _+_, _≤_, _<_}
+use Prim.Native.Nat.{ℕ, suc, _+_, _≤_, _<_}
 use native.Mathlib.Omega.{arith}
 use lib.IntN.{ℤ}
-use lib.ListN.{length, getD, take, drop, take-append-drop, length-append, drop-of-length-le}
+use lib.ListN.{length, getD, take, drop, take-append-drop, length-append}
 use lib.Seq.{take-append-seam, getD-append-add, drop-drop, drop-at}
 use borrow.Author.Tests.{lt-ltb, le-ltb, not-true}
 use Rattle.text.specs.Bytes.{bytes, same, every, before}

@@ -1,24 +1,23 @@
 -- The plan of a table, printed and read again, counts the events as the table does.
 use mathlib.Core.Path.{_≡_, refl, sym, _∙_, ap}
-use mathlib.Core.Bool.{Bool, true, false, not}
-use mathlib.Core.Logic.{_⊎_, inl, inr, ⊎-elim}
+use mathlib.Core.Bool.{true, false}
+use mathlib.Core.Logic.{_⊎_, inl, inr}
 use mathlib.Core.List.{List, [], _∷_, _++_, map}
-use Prim.Native.Nat.{ℕ, zero, suc, _+_, _*_, _/_, _%_, _^_, _≤_, _<_}
+use Prim.Native.Nat.{ℕ, _/_, _%_, _≤_}
 use native.Mathlib.Nat.{mul-mod-left}
 use native.Mathlib.Omega.{arith}
-use lib.IntN.{ℤ, pos, negsuc}
-use lib.ListN.{length, getD, drop, length-append, length-drop}
-use borrow.Author.Tests.{le-ltb}
+use lib.IntN.{ℤ}
+use lib.ListN.{length, length-append, length-drop}
 use Rattle.text.specs.Bytes.{bytes, same, every}
-use Rattle.text.specs.Lines.{fields, lines, unlines}
+use Rattle.text.specs.Lines.{fields, lines}
 use Rattle.text.specs.Numbers.{isNegative, unsigned, isPositive, isNumber}
-use Rattle.text.proofs.TestLaws.{true≢false, and-left, and-right, passed-or-failed, lt-or-ge}
+use Rattle.text.proofs.TestLaws.{true≢false, passed-or-failed}
 use Rattle.text.proofs.BytesLaws.{same-eq}
 use Rattle.plans.specs.Words.{word, number}
 use Rattle.plans.specs.Refusals.{passed}
 use Rattle.plans.specs.Form.{width, stepCount, checkOf}
 use Rattle.counter.specs.declared.Tally.{Tally}
-use Rattle.counter.specs.Counting.{tallyOf, countOf}
+use Rattle.counter.specs.Counting.{tallyOf}
 use Rattle.gates.specs.Gate.{regions}
 use Rattle.tables.specs.Head.{dimensions, gates}
 use Rattle.tables.specs.Steps.{planWords}
@@ -27,7 +26,7 @@ use Rattle.tables.specs.Compile.{planOf}
 use Rattle.tables.proofs.CompileLaws.{plan-passes}
 use Rattle.tables.proofs.CountLaws.{plan-width, counted}
 use Rattle.tables.proofs.Acceptance.{passed-accepted}
-use Rattle.events.specs.Parting.{tableEnd, tablePart, eventPart}
+use Rattle.events.specs.Parting.{tablePart, eventPart}
 use Rattle.events.specs.Listing.{list, eventsOf}
 use Rattle.events.proofs.EventTheorems.{values-complete}
 use Rattle.report.specs.Report.{tallyLines, reportOf}
@@ -35,7 +34,7 @@ use Rattle.report.proofs.ReportTheorems.{report-tally}
 use Rattle.runreport.specs.PlanReading.{fitsWord, isWord, isWordLine}
 use Rattle.runreport.specs.Running.{numberedTally, ranText, runReportOf}
 use Rattle.runreport.proofs.RunLaws.{run-ran}
-use Rattle.planreport.specs.PlanText.{wordText, wordsLine, planParts, planText}
+use Rattle.planreport.specs.PlanText.{wordsLine, planParts, planText}
 use Rattle.planreport.specs.PlanReport.{planReportOf}
 use Rattle.planreport.proofs.TextLaws.{plan-few}
 use Rattle.planreport.proofs.LengthLaws.{words-short, plan-length}

@@ -3,7 +3,7 @@ use mathlib.Core.Path.{_≡_, refl, sym, _∙_, ap}
 use mathlib.Core.Bool.{Bool, true, false, cond}
 use mathlib.Core.Logic.{⊎-elim}
 use mathlib.Core.List.{List, [], _∷_, _++_, map, append-assoc}
-use Prim.Native.Nat.{ℕ, zero, suc, _+_, _-_, _*_, _≤_, _<_}
+use Prim.Native.Nat.{ℕ, zero, suc, _+_, _-_, _≤_, _<_}
 use native.Mathlib.Omega.{arith}
 use lib.Dec.{T, ltb}
 use lib.IntN.{ℤ, pos, negsuc, negℤ, natAbs, _-ℤ_, +ℤ-idl}
@@ -11,7 +11,7 @@ use lib.Signed.{ltZ, nonNeg}
 use mir.Syntax.{w32, w64}
 use mir.Val.{Fits, SFits}
 use Rattle.integers.proofs.Bounds.{abs-neg, in-fit}
-use lib.ListN.{length, getD, take, drop, length-append, length-drop, drop-of-length-le}
+use lib.ListN.{length, getD, drop, length-append, length-drop, drop-of-length-le}
 use lib.Seq.{length-take-le}
 use borrow.Author.Tests.{lt-ltb, le-ltb}
 use Rattle.text.specs.Bytes.{bytes}
@@ -29,8 +29,7 @@ use Rattle.plans.specs.Form.{lengthAt, nextAt, stepCount, stepsEnd, planEnd, ch
 use Rattle.plans.proofs.PlanTheorems.{passed→form}
 use Rattle.runreport.proofs.RunLaws.{steps-from, head-there}
 use Rattle.planreport.specs.PlanText.{wordText, wordsLine, stepParts, planParts, planText}
-use Rattle.planreport.specs.Inner.Compiling.{wordEnd, endedWords}
-use Rattle.planreport.proofs.ProgressLaws.{Progress, progress-none, progress-more}
+use Rattle.planreport.specs.Inner.Compiling.{endedWords}
 
 -- ---- a word
 

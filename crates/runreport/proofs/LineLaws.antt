@@ -1,15 +1,14 @@
 -- Laws of the lines of a plan's text: the lowest that cannot be read, and the words of those that can.
 use mathlib.Core.Path.{_≡_, refl, sym, _∙_, ap}
 use mathlib.Core.Bool.{Bool, true, false, not, cond}
-use mathlib.Core.List.{List, [], _∷_, flatMap}
+use mathlib.Core.List.{List, [], flatMap}
 use Prim.Native.Nat.{ℕ, _+_, _≤_, _<_}
 use native.Mathlib.Omega.{arith}
 use lib.IntN.{ℤ}
-use lib.ListN.{length, getD, set, take, drop, length-map, List·getD-map}
+use lib.ListN.{length, getD, set, take, length-map, List·getD-map}
 use borrow.Author.Tests.{lt-ltb, le-ltb}
-use Rattle.text.specs.Bytes.{every}
 use Rattle.text.specs.Lines.{fields, lines, endsInLF}
-use Rattle.text.specs.Inner.Places.{findFrom, lineFrom}
+use Rattle.text.specs.Inner.Places.{lineFrom}
 use Rattle.text.specs.Output.{over}
 use Rattle.text.proofs.OutputLaws.{over-take}
 use Rattle.text.proofs.FilledLaws.{fields-few}

@@ -1,11 +1,9 @@
 -- Laws of specs/Running: the lines of a run one behind the other, and how long they are.
-use mathlib.Core.Path.{_≡_, refl, sym, _∙_, ap}
-use mathlib.Core.Bool.{Bool, true, false, cond}
-use mathlib.Core.List.{List, [], _∷_, _++_, append-assoc}
-use Prim.Native.Nat.{ℕ, zero, suc, _+_, _*_, _≤_, _<_}
+use mathlib.Core.Path.{_≡_, refl, _∙_}
+use mathlib.Core.List.{List, [], _++_, append-assoc}
+use Prim.Native.Nat.{ℕ, _+_, _≤_}
 use native.Mathlib.Numerals.{add-one}
 use native.Mathlib.Omega.{arith}
-use lib.Dec.{eqb}
 use lib.ListN.{length, getD, length-append}
 use Rattle.text.specs.Bytes.{bytes}
 use Rattle.text.specs.Output.{decimal, over, Writes}
@@ -13,7 +11,7 @@ use Rattle.text.specs.Inner.Writing.{WritesFrom}
 use Rattle.text.proofs.OutputLaws.{decimal-length}
 use Rattle.text.proofs.WritingLaws.{over-from}
 use Rattle.counter.specs.declared.Tally.{Tally}
-use Rattle.events.specs.Printing.{countLine, takenLine, spoiltLine, refusedLine}
+use Rattle.events.specs.Printing.{countLine, takenLine, spoiltLine}
 use Rattle.events.proofs.PrintingLaws.{Written, WrittenFrom, written-more}
 use Rattle.runreport.specs.Running.{numberLine, numberLines, numberedTally, unreadText}
 

@@ -1,9 +1,8 @@
 -- Laws of a run: what each answer prints, and the words and values that are counted.
 use mathlib.Core.Path.{_≡_, refl, sym, _∙_, ap}
 use mathlib.Core.Bool.{Bool, true, false, cond}
-use mathlib.Core.Logic.{⊎-elim}
-use mathlib.Core.List.{List, []}
-use Prim.Native.Nat.{ℕ, zero, suc, _+_, _*_, _≤_, _<_}
+use mathlib.Core.List.{List}
+use Prim.Native.Nat.{ℕ, zero, suc, _*_, _≤_, _<_}
 use native.Mathlib.Omega.{arith}
 use lib.Dec.{ltb, leb, eqb}
 use lib.IntN.{ℤ}
@@ -30,7 +29,7 @@ use Rattle.events.specs.Inner.Answers.{partedOf, listed, answerOf}
 use Rattle.events.specs.Printing.{refusedLine}
 use Rattle.events.specs.declared.parting.Parted.{Parted}
 use Rattle.events.specs.declared.listing.Answer.{Answer}
-use Rattle.events.specs.declared.listing.Answer.the-variants.{Values, Ragged, Short}
+use Rattle.events.specs.declared.listing.Answer.the-variants.{Values, Short}
 use Rattle.events.proofs.EventTheorems.{values-few}
 use Rattle.events.proofs.CountedLaws.{count-clamped}
 use Rattle.runreport.specs.PlanReading.{unreadLine, wordsOf}

@@ -1,9 +1,9 @@
 -- Theorems about a run: how long its report is, and which words are read of a text.
-use mathlib.Core.Path.{_≡_, refl, sym, _∙_, ap}
+use mathlib.Core.Path.{_≡_, refl}
 use mathlib.Core.Bool.{Bool, true, false, cond}
-use mathlib.Core.Logic.{_⊎_, inl, inr, ⊎-elim}
+use mathlib.Core.Logic.{_⊎_, inl, inr}
 use mathlib.Core.List.{List, [], _∷_, map, flatMap}
-use Prim.Native.Nat.{ℕ, zero, suc, _+_, _*_, _≤_, _<_}
+use Prim.Native.Nat.{ℕ, zero, suc, _*_, _≤_}
 use native.Mathlib.Omega.{arith}
 use lib.Dec.{ltb, eqb}
 use lib.IntN.{ℤ, pos, negsuc}
@@ -16,13 +16,13 @@ use Rattle.text.specs.Numbers.{isNegative, unsigned, isPositive, isNumber, numb
 use Rattle.text.specs.Output.{decimal}
 use Rattle.text.proofs.TestLaws.{passed-or-failed}
 use Rattle.text.proofs.OutputLaws.{decimal-length}
-use Rattle.plans.specs.Refusals.{Verdict, passed}
+use Rattle.plans.specs.Refusals.{Verdict}
 use Rattle.plans.specs.Form.{stepCount, checkOf}
 use Rattle.counter.specs.declared.Tally.{Tally}
 use Rattle.counter.specs.Counting.{countOf}
 use Rattle.events.specs.Parting.{tablePart}
 use Rattle.events.specs.Listing.{Events, list, ragged, eventsOf}
-use Rattle.events.specs.Printing.{countLine, takenLine, spoiltLine, refusedLine}
+use Rattle.events.specs.Printing.{takenLine, spoiltLine, refusedLine}
 use Rattle.plans.specs.Form.{width}
 use Rattle.runreport.specs.PlanReading.{fitsWord, isWord, wordOf, isWordLine, wordLines, unreadLine, lineWords, wordsOf}
 use Rattle.runreport.specs.Running.{numberLine, numberLines, numberedTally, orRefused, unreadText, eventsText, ranText, runReportOf}

@@ -1,6 +1,7 @@
 -- `put_events`: the events are read and counted, and what that prints.
 use mathlib.Core.Path.{sym}
 use native.Mathlib.Omega.{arith}
+use Prim.Native.Nat.{_≤_}
 use lib.ListN.{length}
 use lib.Seq.{length-take-le}
 use borrow.Author.Needs.{needs}
@@ -8,22 +9,21 @@ use Rattle.runreport.proofs.RunLaws.{width-is, count-is, count-most, va
 use Rattle.runreport.proofs.put_events.Statement.{statement}
 use Rattle.runreport.proofs.put_events.Tie as tie
 
-slice-reshare-prefix-count : tie.Need-slice-reshare-prefix-count
-slice-reshare-prefix-count c =
+-- the values that were read stand in the list
+values-inside : (c : tie.After-value-count) → c .value-count .result ≤ length (c .before .before .before .before .before .before .before .args .list .now)
+values-inside c =
     let read = c .before .before in
     let entry = read .before .before .before .before .before in
-    let room = values-room _ (entry .args .input .now) (entry .args .list .now) (omega (arith, entry .pre .0, entry .pre .1)) (read .read-events .ensures .0)
-    (read .read-events .ensures .1) (c .value-count .ensures) in
-    omega (arith, read .read-events .kept, room)
+    values-room _ (entry .args .input .now) (entry .args .list .now) (omega (arith, entry .pre .0, entry .pre .1))
+    (read .read-events .ensures .0) (read .read-events .ensures .1) (c .value-count .ensures)
+
+slice-reshare-prefix-count : tie.Need-slice-reshare-prefix-count
+slice-reshare-prefix-count c = omega (arith, c .before .before .read-events .kept, values-inside c)
 
 slice-aggregate-count : tie.Need-slice-aggregate-count
 slice-aggregate-count c =
     let values = c .before in
-    let read = values .before .before in
-    let entry = read .before .before .before .before .before in
-    let room = values-room _ (entry .args .input .now) (entry .args .list .now) (omega (arith, entry .pre .0, entry .pre .1)) (read .read-events .ensures .0)
-    (read .read-events .ensures .1) (values .value-count .ensures) in
-    sym (length-take-le (values .value-count .result) _ (omega (arith, read .read-events .kept, room)))
+    sym (length-take-le (values .value-count .result) _ (omega (arith, values .before .before .read-events .kept, values-inside values)))
 
 put-answer-requires : tie.Need-put-answer-requires
 put-answer-requires c κs =

@@ -1,5 +1,6 @@
 -- `put_run`: the plan's text is read, and what the plan prints.
-use mathlib.Core.Path.{sym, ap, _∙_}
+use mathlib.Core.Path.{sym}
+use Prim.Native.Nat.{_≤_}
 use native.Mathlib.Omega.{arith}
 use lib.ListN.{length, take}
 use lib.Seq.{length-take-le}
@@ -24,36 +25,21 @@ returns c =
     rw (run-unread (entry .args .input .now) (entry .pre .0) (part-is _ _ (parted .split .ensures .0)) (unread .unread-line .ensures) (test .if1 .taken)) at
     (line .put-unread .ensures)
 
-slice-reshare-prefix-put-plan : tie.Need-slice-reshare-prefix-put-plan
-slice-reshare-prefix-put-plan c =
-    let words = c .before in
-    let parted = words .before .before .before .before .before in
+-- the words that were read stand in the plan
+words-inside : (c : tie.After-put-words) → c .put-words .result ≤ length (c .before .before .before .before .before .before .before .before .args .plan .now)
+words-inside c =
+    let parted = c .before .before .before .before .before in
     let entry = parted .before .before .before in
-    omega (
-      arith,
-      words .put-words .kept,
-      words .put-words .ensures .1,
-      length-take-le (parted .split .result .table) (entry .args .input .now)
-          (parted .split .ensures .1),
-      entry .pre .0,
-      entry .pre .1,
-    )
+    let few = length-take-le (parted .split .result .table) (entry .args .input .now) (parted .split .ensures .1) in
+    omega (arith, c .put-words .ensures .1, few, entry .pre .0, entry .pre .1)
+
+slice-reshare-prefix-put-plan : tie.Need-slice-reshare-prefix-put-plan
+slice-reshare-prefix-put-plan c = omega (arith, c .before .put-words .kept, words-inside (c .before))
 
 slice-aggregate-put-plan : tie.Need-slice-aggregate-put-plan
 slice-aggregate-put-plan c =
     let words = c .before .before in
-    let parted = words .before .before .before .before .before in
-    let entry = parted .before .before .before in
-    sym (length-take-le (words .put-words .result) _
-    (omega (
-      arith,
-      words .put-words .kept,
-      words .put-words .ensures .1,
-      length-take-le (parted .split .result .table) (entry .args .input .now)
-          (parted .split .ensures .1),
-      entry .pre .0,
-      entry .pre .1,
-    )))
+    sym (length-take-le (words .put-words .result) _ (omega (arith, words .put-words .kept, words-inside words)))
 
 returns-2 : tie.Need-returns-2
 returns-2 c =
@@ -65,9 +51,8 @@ returns-2 c =
     let entry = parted .before .before .before in
     let input = entry .args .input .now in
     let part = take (parted .split .result .table) input in
-    let few = length-take-le (parted .split .result .table) input (parted .split .ensures .1) in
     let plan = written-taken (wordsOf part) (entry .args .plan .now) (words .put-words .ensures .0)
-    (omega (arith, words .put-words .ensures .0 .0, words .put-words .ensures .1, few, entry .pre .0, entry .pre .1)) in
+    (omega (arith, words .put-words .ensures .0 .0, words-inside words)) in
     rw (run-ran input (entry .pre .0) (part-is _ _ (parted .split .ensures .0)) (unread .unread-line .ensures) (test .if1 .left) _ plan) at
     (report .put-plan .ensures)
 

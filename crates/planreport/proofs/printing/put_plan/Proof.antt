@@ -1,7 +1,7 @@
 -- `put_plan`: the first line and those of the steps before the ones that are left are written.
 use mathlib.Core.Path.{_≡_, refl, _∙_}
 use mathlib.Core.List.{List, map, _++_, [], _∷_}
-use Prim.Native.Nat.{ℕ, _+_, _*_, _≤_}
+use Prim.Native.Nat.{ℕ, _+_, _*_, _≤_, _<_}
 use native.Mathlib.Omega.{arith}
 use borrow.Author.Needs.{needs}
 use lib.IntN.{ℤ}
@@ -37,9 +37,9 @@ loop-holds : tie.Need-loop-holds Inv-loop μ-loop
 loop-holds c =
     let head = c .before .before .before in
     let entry = head .before .before .before .before in
-    let plan = entry .args .plan .now in
-    let short = rw (head .before .part-at .ensures, head-length plan (entry .pre)) at (head .put-line .ensures .1) in
-    (omega arith, rw (count-is plan (c .number-at .ensures)) (plan-ends plan (entry .pre)), refl, λ d p. p)
+    let p = entry .args .plan .now in
+    let short = rw (head .before .part-at .ensures, head-length p (entry .pre)) at (head .put-line .ensures .1) in
+    (omega arith, rw (count-is p (c .number-at .ensures)) (plan-ends p (entry .pre)), refl, λ d p. p)
 
 add-number-at : tie.Need-add-number-at Inv-loop μ-loop
 add-number-at c =
@@ -48,80 +48,75 @@ add-number-at c =
     let plan = entry .args .plan .now in
     omega (arith, place-inside plan (loop .loop .left) (loop .loop .word) (loop .loop .inv .1), plan-few plan (entry .pre))
 
+-- ---- a turn of the loop, when the length of its step is read
+
+module _ (turn : tie.After-number-at2 Inv-loop μ-loop) where
+  abbrev plan : List ℤ
+  plan = turn .before .before .before .before .before .before .before .before .before .before .args .plan .now
+
+  abbrev left : ℕ
+  left = turn .before .before .loop .left
+
+  abbrev word : ℕ
+  word = turn .before .before .loop .word
+
+  -- how many words the step has
+  abbrev size : ℕ
+  size = 4 + turn .number-at2 .result
+
+  ends : stepsEnd left plan word ≡ length plan
+  ends = turn .before .before .loop .inv .1
+
+  some : 0 < left
+  some = turn .before .loop-test .taken
+
+  few : length plan ≤ 4096
+  few = plan-few plan (turn .before .before .before .before .before .before .before .before .before .before .pre)
+
+  inside : word + size ≤ length plan
+  inside = step-inside plan left word ends some (turn .number-at2 .ensures)
+
+  long : length (part plan word size) ≡ size
+  long = step-length plan left word ends some (turn .number-at2 .ensures)
+
 add-m : tie.Need-add-m Inv-loop μ-loop
-add-m c =
-    let loop = c .before .before in
-    let entry = loop .before .before .before .before .before .before .before .before in
-    let plan = entry .args .plan .now in
-    omega (
-      arith,
-      step-inside plan (loop .loop .left) (loop .loop .word) (loop .loop .inv .1) (c .before .loop-test .taken) (c .number-at2 .ensures),
-      plan-few plan (entry .pre),
-    )
+add-m c = omega (arith, inside c, few c)
 
 put-line-from-requires : tie.Need-put-line-from-requires Inv-loop μ-loop
 put-line-from-requires c κs =
-    let number = c .before .before in
-    let test = number .before in
-    let loop = test .before in
-    let entry = loop .before .before .before .before .before .before .before .before in
-    let plan = entry .args .plan .now in
-    let inside = step-inside plan (loop .loop .left) (loop .loop .word) (loop .loop .inv .1) (test .loop-test .taken) (number .number-at2 .ensures) in
-    let few = plan-few plan (entry .pre) in
-    rw (
-      c .part-at2 .ensures,
-      step-length plan (loop .loop .left) (loop .loop .word) (loop .loop .inv .1) (test .loop-test .taken)
-          (number .number-at2 .ensures),
-    )
-    (omega arith, omega arith)
+    let turn = c .before .before in
+    let size-is = long turn in
+    let fits = inside turn in
+    let most = few turn in
+    rw (c .part-at2 .ensures) (omega arith, omega arith)
 
 add-at : tie.Need-add-at Inv-loop μ-loop
 add-at c =
     let line = c .before .before in
     let part = line .before in
-    let number = part .before .before in
-    let test = number .before in
-    let loop = test .before in
-    let entry = loop .before .before .before .before .before .before .before .before in
-    let plan = entry .args .plan .now in
-    let inside = step-inside plan (loop .loop .left) (loop .loop .word) (loop .loop .inv .1) (test .loop-test .taken) (number .number-at2 .ensures) in
-    let long = step-length plan (loop .loop .left) (loop .loop .word) (loop .loop .inv .1) (test .loop-test .taken) (number .number-at2 .ensures) in
-    let short = rw (part .part-at2 .ensures, long) at (line .put-line-from .ensures .1) in
-    omega (arith, inside, plan-few plan (entry .pre), loop .loop .inv .0, short)
+    let turn = part .before .before in
+    let short = rw (part .part-at2 .ensures, long turn) at (line .put-line-from .ensures .1) in
+    omega (arith, inside turn, few turn, turn .before .before .loop .inv .0, short)
 
 add-word : tie.Need-add-word Inv-loop μ-loop
 add-word c =
-    let number = c .before .before .before .before .before in
-    let test = number .before in
-    let loop = test .before in
-    let entry = loop .before .before .before .before .before .before .before .before in
-    let plan = entry .args .plan .now in
-    omega (
-      arith,
-      step-inside plan (loop .loop .left) (loop .loop .word) (loop .loop .inv .1) (test .loop-test .taken) (number .number-at2 .ensures),
-      plan-few plan (entry .pre),
-    )
+    let turn = c .before .before .before .before .before in
+    omega (arith, inside turn, few turn)
 
 loop-again : tie.Need-loop-again Inv-loop μ-loop
 loop-again c =
     let line = c .before .before in
     let part = line .before in
-    let number = part .before .before in
-    let test = number .before in
-    let loop = test .before in
-    let entry = loop .before .before .before .before .before .before .before .before in
-    let plan = entry .args .plan .now in
-    let left = loop .loop .left in
-    let word = loop .loop .word in
-    let ends = loop .loop .inv .1 in
-    let some = test .loop-test .taken in
-    let m = number .number-at2 .ensures in
-    let short = rw (part .part-at2 .ensures, step-length plan left word ends some m) at (line .put-line-from .ensures .1) in
+    let turn = part .before .before in
+    let loop = turn .before .before in
+    let m = turn .number-at2 .ensures in
+    let short = rw (part .part-at2 .ensures, long turn) at (line .put-line-from .ensures .1) in
     let written = rw (part .part-at2 .ensures) at (line .put-line-from .ensures .0) in (
       omega (arith, loop .loop .inv .0, short),
-      rw (step-next plan left word ends some m) (next-end plan left word ends some),
+      rw (step-next (plan turn) (left turn) (word turn) (ends turn) (some turn) m) (next-end (plan turn) (left turn) (word turn) (ends turn) (some turn)),
       line .put-line-from .kept .0 ∙ loop .loop .inv .2,
-      λ d p. progress-more _ d _ _ (loop .loop .inv .3 d p) (steps-more plan left word ends some m) written,
+      λ d p.
+          progress-more _ d _ _ (loop .loop .inv .3 d p) (steps-more (plan turn) (left turn) (word turn) (ends turn) (some turn) m) written,
     )
 
 same-length : tie.Need-same-length Inv-loop μ-loop
