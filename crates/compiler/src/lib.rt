@@ -197,7 +197,10 @@ pub fn table_verdict(table: &[u8], room: usize) -> Acceptance
         Answer::Long => Acceptance::Refused(Refusal::LongTable),
         Answer::Unended => Acceptance::Refused(Refusal::OpenLine),
         Answer::BadHead => Acceptance::Refused(Refusal::BadHead),
-        Answer::BadLine { refusal, line } => Acceptance::Refused(Refusal::BadLine { refusal, line }),
+        Answer::BadLine { refusal, line } => Acceptance::Refused(Refusal::BadLine {
+            refusal,
+            line,
+        }),
         Answer::Crowded { line } => Acceptance::Refused(Refusal::Crowded { line }),
         Answer::Repeated { line } => Acceptance::Refused(Refusal::TwinName { line }),
         Answer::Dead { line } => Acceptance::Refused(Refusal::DeadReference { line }),

@@ -1,26 +1,26 @@
 -- What compiling into 4,096 words answers is what is printed.
-use mathlib.Core.Path.{_≡_, sym, ap}
+use mathlib.Core.Path.{_≡_, refl, sym, ap, _∙_}
+use mathlib.Core.Bool.{false}
 use mathlib.Core.List.{List}
 use Prim.Native.Nat.{ℕ, _≤_}
 use native.Mathlib.Omega.{arith}
+use lib.Dec.{eqb}
 use lib.IntN.{ℤ}
 use lib.ListN.{length, take}
 use Rattle.text.specs.Output.{over}
 use Rattle.text.proofs.OutputLaws.{over-length}
-use Rattle.plans.specs.Refusals.{passed}
+use Rattle.plans.specs.Refusals.{Verdict, passed}
 use Rattle.plans.specs.Form.{checkOf}
 use Rattle.tables.specs.Refusals.{tableVerdict}
 use Rattle.tables.specs.Compile.{Compiling, planOf, compileOf}
-use Rattle.tables.proofs.CompileLaws.{compiled-plan, plan-passes}
+use Rattle.tables.proofs.CompileLaws.{compiled-verdict, compiled-plan, plan-passes}
 use Rattle.compiler.specs.Answers.{compiling, tableRefusal}
 use Rattle.compiler.specs.declared.Refusal.{Refusal}
 use Rattle.compiler.specs.declared.Compiled.{Compiled}
 use Rattle.compiler.specs.declared.Compiled.the-variants.{Written, Refused}
-use Rattle.compiler.proofs.VerdictLaws.{verdict-numbered, number-accepted}
+use Rattle.compiler.proofs.VerdictLaws.{verdict-numbered, number-accepted, refused-number}
 use Rattle.events.specs.Printing.{refusedLine}
-use Rattle.report.specs.Inner.Answers.{Compiles}
-use Rattle.report.proofs.AnswerLaws.{unless-passed, unless-refused}
-use Rattle.report.proofs.TableLaws.{table-compiles}
+use Rattle.report.specs.Report.{unlessRefused}
 use Rattle.planreport.specs.PlanText.{planText}
 use Rattle.planreport.specs.PlanReport.{planReportOf}
 use Rattle.planreport.specs.Inner.Compiling.{HoldsPlan, compiledText}
@@ -67,17 +67,24 @@ module _ (table : List ℕ) (slice after : List ℤ) (room : length slice ≡ 40
     pub words-pass : checkOf (take words after) ≡ passed
     words-pass = rw words-are (plan-passes (length slice) table (number-accepted (length slice) table accepted))
 
+  -- the answer of compiling tells the table's verdict
+  module _ {v : Verdict} {c : Compiling} (e : c ≡ compileOf table slice) (f : v ≡ c .verdict) where
+    verdict-told : v ≡ tableVerdict 4096 table
+    verdict-told = f ∙ ap (λ (x : Compiling). x .verdict) e ∙ rw room at (compiled-verdict table slice)
+
+  table-accepted : {words m : ℕ} → compiling (Written words m) after ≡ compileOf table slice → tableVerdict 4096 table .number ≡ 0
+  table-accepted e = sym (ap (λ (x : Verdict). x .number) (verdict-told e refl))
+
   pub plan-held : (c : Compiled) → compiling c after ≡ compileOf table slice → HoldsPlan c after
-  plan-held (Written words m) e =
-      let k : Compiles table (Written words m) = table-compiles table slice after room (Written words m) e in
-      (words-inside words m e (k .0), words-pass words m e (k .0))
+  plan-held (Written words m) e = (words-inside words m e (table-accepted e), words-pass words m e (table-accepted e))
   plan-held (Refused r) e = tt
 
   pub compiled-printed : (c : Compiled) → compiling c after ≡ compileOf table slice → compiledText c after ≡ planReportOf table
   unfolding planReportOf
   compiled-printed (Written words m) e =
-      let k : Compiles table (Written words m) = table-compiles table slice after room (Written words m) e in
-      rw (words-are words m e (k .0)) (sym (unless-passed (tableVerdict 4096 table) (planText (planOf table)) (k .0)))
+      let z = table-accepted e in
+      rw (words-are words m e z, z)
   compiled-printed (Refused r) e =
-      let k : Compiles table (Refused r) = table-compiles table slice after room (Refused r) e in
-      rw (k .0) (sym (unless-refused (tableRefusal r) (planText (planOf table)) (k .1)))
+      let v : tableRefusal r ≡ tableVerdict 4096 table = verdict-told e refl in
+      let z : eqb (tableRefusal r .number) 0 ≡ false = refused-number table slice e in
+      rw (← v, z)

@@ -35,7 +35,7 @@ range-fits (pos a) hi (negsuc n) g h e = absurd (true≢false (sym (and-left fal
 range-fits (negsuc a) hi (negsuc n) g h e = rw (le-leb n 2147483647 (omega (arith, leb-true n a (and-left (leb n a) (leZ (negsuc n) hi) e))))
 
 number-fits : (w : ℤ) → number w ≤ 4096 → fitsWord w ≡ true
-unfolding fitsWord number
+unfolding fitsWord inRange number
 number-fits (pos n) h = le-leb n 2147483647 (omega arith)
 number-fits (negsuc n) h = absurd (omega arith)
 

@@ -13,12 +13,9 @@ use borrow.Author.Tests.{le-ltb, leb-true, eq-eqb, ne-eqb, not-true}
 use Rattle.text.specs.Bytes.{bytes, same, every, before}
 use Rattle.text.specs.Inner.Counts.{without}
 use Rattle.text.specs.Numbers.{isDigit, isNegative, unsigned, isPositive, isNumber, digitsValue, numberValue}
-<<<<<<< HEAD
 use Rattle.integers.specs.Range.{inRange}
-use Rattle.text.specs.Lines.{push, parts, fields, lines, unlines, endsInLF}
+use Rattle.text.specs.Lines.{parts, fields, lines, unlines, endsInLF}
 use Rattle.text.specs.Inner.Joining.{unfields}
-=======
->>>>>>> wt-D
 use Rattle.text.specs.Output.{decimal}
 use Rattle.text.proofs.TestLaws.{and-left, and-right, passed-or-failed, lt-or-ge}
 use Rattle.text.proofs.BytesLaws.{same-eq}
@@ -83,11 +80,11 @@ digits-without c h (x ∷ s) e =
 -- ---- words
 
 pub fits-pos : (n : ℕ) → fitsWord (pos n) ≡ true → n ≤ 2147483647
-unfolding fitsWord
+unfolding fitsWord inRange
 fits-pos n e = leb-true n 2147483647 e
 
 pub fits-neg : (n : ℕ) → fitsWord (negsuc n) ≡ true → n ≤ 2147483647
-unfolding fitsWord
+unfolding fitsWord inRange
 fits-neg n e = leb-true n 2147483647 (and-left (leb n 2147483647) true e)
 
 pub text-pos : (n : ℕ) → wordText (pos n) ≡ decimal n

@@ -12,7 +12,6 @@ use borrow.Author.Tests.{lt-ltb, le-ltb, not-true}
 use Rattle.text.specs.Bytes.{bytes, same, every, before}
 use Rattle.text.specs.Inner.Counts.{without}
 use Rattle.text.specs.Lines.{parts, lines, unlines}
-use Rattle.text.specs.Inner.Places.{startsFrom, lineStarts}
 use Rattle.text.proofs.TestLaws.{and-left, and-right, passed-or-failed, lt-or-ge}
 use Rattle.text.proofs.TextTheorems.{lines-unlines}
 use Rattle.events.specs.Parting.{tableLines, hasEvents, tableEnd, tablePart, eventsEnded, eventPart}
@@ -73,13 +72,6 @@ module _ (ls : List (List ℕ)) (whole : every (without 10) ls ≡ true) (other 
           let f = not-true (same (bytes "events") j) (and-left (isOther j) (every isOther js) e) in
           rw f (omega (arith, go js (and-right (isOther j) (every isOther js) e)))
 
-  starts-behind : (k : List ℕ) (ks : List (List ℕ)) (d : ℕ) → getD (startsFrom 0 (ls ++ (k ∷ ks))) (length ls) d ≡ length (unlines ls)
-  starts-behind k ks d = go ls 0 ∙ (let z : 0 + length (unlines ls) ≡ length (unlines ls) = omega arith in z)
-    where
-      go : (js : List (List ℕ)) (a : ℕ) → getD (startsFrom a (js ++ (k ∷ ks))) (length js) d ≡ a + length (unlines js)
-      go [] a = omega arith
-      go (j ∷ js) a = go js (a + length j + 1) ∙ simp length-append (omega arith)
-
   -- ---- with the line `events` and what follows
 
   module _ (part : List ℕ) where
@@ -97,8 +89,8 @@ module _ (ls : List (List ℕ)) (whole : every (without 10) ls ≡ true) (other 
         (lt-ltb (length ls) (length ls + suc (length (lines part))) (omega arith))
 
     joined-end : tableEnd (unlines ls ++ opened part) ≡ length (unlines ls)
-    unfolding tableEnd lineStarts
-    joined-end = rw (joined-count, joined-lines) (starts-behind (bytes "events") (lines part) (length (unlines ls ++ opened part)))
+    unfolding tableEnd
+    joined-end = rw (joined-has, joined-count, joined-lines, take-append-seam ls (bytes "events" ∷ lines part))
 
     pub joined-part : tablePart (unlines ls ++ opened part) ≡ unlines ls
     unfolding tablePart
