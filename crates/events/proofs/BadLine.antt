@@ -39,7 +39,8 @@ module _ (n : ℕ) (s : List ℕ) where
       go [] l = refl
       go (x ∷ ls) l = both (passed-or-failed (isEvent n x)) (go ls)
         where
-          both : (isEvent n x ≡ true) ⊎ (isEvent n x ≡ false) → (length ls ≤ before (isBad n) ls → every (isEvent n) ls ≡ true) → every (isEvent n) (x ∷ ls) ≡ true
+          both : (isEvent n x ≡ true) ⊎ (isEvent n x ≡ false) → (length ls ≤ before (isBad n) ls → every (isEvent n) ls ≡ true)
+              → every (isEvent n) (x ∷ ls) ≡ true
           both (inl e) r = let k : suc (length ls) ≤ suc (before (isBad n) ls) = rw e at l in rw e (r (omega arith))
           both (inr e) r = absurd (let k : suc (length ls) ≤ 0 = rw e at l in omega arith)
 

@@ -68,7 +68,8 @@ module _ (s : List ℕ) (h : hasEvents s ≡ true) where
   unfolding tableLines
   line-is =
       rw begins
-      (line-at-start s (tableLines s) is-line ∙ sym (same-eq (bytes "events") (getD (lines s) (tableLines s) []) (before-found (same (bytes "events")) [] (lines s) is-line)))
+      (line-at-start s (tableLines s) is-line
+      ∙ sym (same-eq (bytes "events") (getD (lines s) (tableLines s) []) (before-found (same (bytes "events")) [] (lines s) is-line)))
 
   lf-at : findFrom s (tableEnd s) 10 ≡ tableEnd s + 6
   lf-at = sym (line-length s (tableEnd s) inside) ∙ ap (λ (l : List ℕ). tableEnd s + length l) line-is
@@ -122,7 +123,11 @@ fields-bytes [] h e = absurd (omega arith)
 fields-bytes (f ∷ []) h e = omega (arith, number-some f (and-left (isNumber f) true e))
 fields-bytes (f ∷ (g ∷ fs)) h e =
     simp length-append
-    (omega (arith, number-some f (and-left (isNumber f) (every isNumber (g ∷ fs)) e), fields-bytes (g ∷ fs) (omega arith) (and-right (isNumber f) (every isNumber (g ∷ fs)) e)))
+    (omega (
+      arith,
+      number-some f (and-left (isNumber f) (every isNumber (g ∷ fs)) e),
+      fields-bytes (g ∷ fs) (omega arith) (and-right (isNumber f) (every isNumber (g ∷ fs)) e),
+    ))
 
 module _ (n : ℕ) (l : List ℕ) (e : isEvent n l ≡ true) where
   event-values : length (lineValues l) ≡ n
@@ -159,12 +164,18 @@ module _ (n : ℕ) (s : List ℕ) (vs : List ℤ) (e : eventsOf n s ≡ list vs)
   unfolding badLine eventLines values flatMap lines endsInLF
   listed-are = go (passed-or-failed (hasEvents s)) (passed-or-failed (eventsEnded s)) (lt-or-ge 0 (badLine n (eventPart s)))
     where
-      go : (hasEvents s ≡ true) ⊎ (hasEvents s ≡ false) → (eventsEnded s ≡ true) ⊎ (eventsEnded s ≡ false) → (0 < badLine n (eventPart s)) ⊎ (badLine n (eventPart s) ≤ 0)
+      go : (hasEvents s ≡ true) ⊎ (hasEvents s ≡ false) → (eventsEnded s ≡ true) ⊎ (eventsEnded s ≡ false)
+          → (0 < badLine n (eventPart s)) ⊎ (badLine n (eventPart s) ≤ 0)
           → (badLine n (eventPart s) ≡ 0) × (vs ≡ values (eventPart s))
-      go (inr h) g l = let q : list [] ≡ list vs = sym (events-none n s h) ∙ e in let v : vs ≡ [] = cc in rw (events-no-part s h, v) (refl, refl)
+      go (inr h) g l =
+          let q : list [] ≡ list vs = sym (events-none n s h) ∙ e in
+          let v : vs ≡ [] = cc in
+          rw (events-no-part s h, v) (refl, refl)
       go (inl h) (inr g) l = absurd (let q : ragged (tableLines s + 1) ≡ list vs = sym (events-open n s h g) ∙ e in let z : _≡_ {A = ℕ} 0 1 = cc in omega arith)
       go (inl h) (inl g) (inl l) =
-          absurd (let q : ragged (tableLines s + 1 + badLine n (eventPart s)) ≡ list vs = sym (events-ragged n s h g l) ∙ e in let z : _≡_ {A = ℕ} 0 1 = cc in omega arith)
+          absurd (let q : ragged (tableLines s + 1 + badLine n (eventPart s)) ≡ list vs = sym (events-ragged n s h g l) ∙ e in
+          let z : _≡_ {A = ℕ} 0 1 = cc in
+          omega arith)
       go (inl h) (inl g) (inr l) = let q : list (values (eventPart s)) ≡ list vs = sym (events-listed n s h g l) ∙ e in (omega arith, cc)
 
   -- the list is complete: n values for each line of events

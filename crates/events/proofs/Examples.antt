@@ -2,7 +2,7 @@
 use mathlib.Core.Path.{_≡_, refl}
 use mathlib.Core.List.{List, [], _∷_, map, flatMap}
 use Prim.Native.Nat.{ℕ}
-use Prim.Native.String.{String}
+use Prim.Native.String.{String, _++_}
 use lib.IntN.{pos, negsuc}
 use Rattle.text.specs.Bytes.{bytes, same}
 use Rattle.text.specs.Numbers.{isNegative, unsigned, isPositive, isNumber, numberValue}
@@ -24,12 +24,16 @@ record Example : Type 0 where
 abbrev example : ℕ → String → String → Events → Example
 example n input table events = record { n = n; input = input; table = table; events = events }
 
+-- 01's table
+abbrev table01 : String
+table01 =
+    "dims\tFSC\tSSC\nrect\tLive\tRing\tFSC\t300\t600\nellip\tRing\t-\tFSC\tSSC\t400\t200\t40000\t0\t30625\t1\n"
+    ++ "quad\tQ\tRing\t1\tFSC\t1\t400\tLo\t0\tHi\t500\nand\tBoth\t-\tLive\t!Hi\n"
+
 abbrev examples : List Example
 examples =
     -- 01's input
-    example 2
-    "dims\tFSC\tSSC\nrect\tLive\tRing\tFSC\t300\t600\nellip\tRing\t-\tFSC\tSSC\t400\t200\t40000\t0\t30625\t1\nquad\tQ\tRing\t1\tFSC\t1\t400\tLo\t0\tHi\t500\nand\tBoth\t-\tLive\t!Hi\nevents\n600\t200\n400\t375\n599\t200\n400\t376\n350\t200\n70000\t0\n"
-    "dims\tFSC\tSSC\nrect\tLive\tRing\tFSC\t300\t600\nellip\tRing\t-\tFSC\tSSC\t400\t200\t40000\t0\t30625\t1\nquad\tQ\tRing\t1\tFSC\t1\t400\tLo\t0\tHi\t500\nand\tBoth\t-\tLive\t!Hi\n"
+    example 2 (table01 ++ "events\n600\t200\n400\t375\n599\t200\n400\t376\n350\t200\n70000\t0\n") table01
     (list (pos 600 ∷ pos 200 ∷ pos 400 ∷ pos 375 ∷ pos 599 ∷ pos 200 ∷ pos 400 ∷ pos 376 ∷ pos 350 ∷ pos 200 ∷ pos 70000 ∷ pos 0 ∷ []))
     -- only the line that is exactly `events` parts the input
     ∷ example 1 "dims\tA\nevents\r\nevents\t\n events\nevents\n1\n" "dims\tA\nevents\r\nevents\t\n events\n" (list (pos 1 ∷ []))
@@ -55,7 +59,8 @@ examples =
     -- a second line `events`
     ∷ example 1 "dims\tA\nevents\n1\nevents\n2\n" "dims\tA\n" (ragged 4)
     -- numbers beyond 32 bits are listed as they are, off the scale; a bad form is bad at any length
-    ∷ example 1 "dims\tA\nevents\n4294967296\n-1234567890123456789012345678901234567890\n" "dims\tA\n" (list (pos 4294967296 ∷ negsuc 1234567890123456789012345678901234567889 ∷ []))
+    ∷ example 1 "dims\tA\nevents\n4294967296\n-1234567890123456789012345678901234567890\n" "dims\tA\n"
+    (list (pos 4294967296 ∷ negsuc 1234567890123456789012345678901234567889 ∷ []))
     ∷ example 1 "dims\tA\nevents\n1234567890123456789012345678901234567890x\n" "dims\tA\n" (ragged 3)
     ∷ []
 
@@ -64,7 +69,8 @@ unfolding tablePart tableEnd hasEvents tableLines lines same
 example-tables = refl
 
 pub example-events : map (λ e. eventsOf (e .n) (bytes (e .input))) examples ≡ map (λ e. e .events) examples
-unfolding eventsOf hasEvents eventsEnded eventPart tableEnd tableLines badLine eventLines isEvent values lineValues flatMap lines fields endsInLF same isNumber isPositive isNegative unsigned numberValue
+unfolding eventsOf hasEvents eventsEnded eventPart tableEnd tableLines badLine eventLines isEvent values lineValues flatMap lines fields endsInLF same isNumber
+    isPositive isNegative unsigned numberValue
 example-events = refl
 
 -- ── Printed lines ──

@@ -26,9 +26,12 @@ unfolding tableEnd hasEvents lineStarts
 end-at s = go (lt-or-ge (tableLines s) (length (lines s)))
   where
     go : (tableLines s < length (lines s)) ⊎ (length (lines s) ≤ tableLines s)
-        → cond (ltb (tableLines s) (length (lines s))) (length (unlines (take (tableLines s) (lines s)))) (length s) ≡ getD (startsFrom 0 (lines s)) (tableLines s) (length s)
+        → cond (ltb (tableLines s) (length (lines s))) (length (unlines (take (tableLines s) (lines s)))) (length s)
+        ≡ getD (startsFrom 0 (lines s)) (tableLines s) (length s)
     go (inl h) = rw (lt-ltb (tableLines s) (length (lines s)) h) (sym (starts-at 0 (lines s) (tableLines s) (length s) h ∙ zero-add _))
-    go (inr h) = rw (le-ltb (tableLines s) (length (lines s)) h) (sym (List·getD-eq-default (startsFrom 0 (lines s)) (length s) (omega (arith, starts-length 0 (lines s)))))
+    go (inr h) =
+        rw (le-ltb (tableLines s) (length (lines s)) h)
+        (sym (List·getD-eq-default (startsFrom 0 (lines s)) (length s) (omega (arith, starts-length 0 (lines s)))))
 
 -- the line `events`
 abbrev pub isOpening : List ℕ → Bool

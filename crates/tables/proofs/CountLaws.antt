@@ -40,7 +40,8 @@ pub plan-width : (n : ℕ) (rs : List Region) → width (planWords n rs) ≡ n
 unfolding width planWords word number
 plan-width n rs = refl
 
-pub counted : (p values : List ℤ) → checkOf p ≡ passed → length values % width p ≡ 0 → countOf p values ≡ record { verdict = passed; tally = tallyOf p values (length values / width p) }
+pub counted : (p values : List ℤ) → checkOf p ≡ passed → length values % width p ≡ 0
+    → countOf p values ≡ record { verdict = passed; tally = tallyOf p values (length values / width p) }
 unfolding countOf countPassed
 counted p values e h = rw (e, h)
 
@@ -96,15 +97,19 @@ module _ (t u : List Gate) (p : List·Permᴰ t u) (ok : Rules t) (n : ℕ) (som
       go : (taken e ≡ true) ⊎ (taken e ≡ false) → hasBit (cond (taken e) (bitsOf (planWords n rs) e) 0) (numberOf rs k) ≡ member t e k
       go (inl h) =
           let i = in-number rs k m in
-          rw h (bits-right rs (orderly u ok-u) n (good-regions n u good) e l h (member t e) (moved-obeys t u p e (member t e) (member-obeys t e ok h)) (numberOf rs k) i
+          rw h
+          (bits-right rs (orderly u ok-u) n (good-regions n u good) e l h (member t e) (moved-obeys t u p e (member t e) (member-obeys t e ok h))
+          (numberOf rs k) i
           ∙ ap (member t e) (sym (number-name rs k i)))
       go (inr h) = rw h (no-bit (numberOf rs k) ∙ sym (member-spoilt t e h k))
 
   pub count-by-name : (values : List ℤ) (k : Name) → k ∈ names rs
-      → getD (tallyOf (planWords n rs) values (length values / n) .counts) (numberOf rs k) 0 ≡ howMany (λ j. member t (eventAt n values j) k) (length values / n)
+      → getD (tallyOf (planWords n rs) values (length values / n) .counts) (numberOf rs k) 0
+      ≡ howMany (λ j. member t (eventAt n values j) k) (length values / n)
   unfolding memberAt
   count-by-name values k m =
-      let i = in-number rs k m in let few = ok-u .few in
+      let i = in-number rs k m in
+      let few = ok-u .few in
       count-at (planWords n rs) values (length values / n) (numberOf rs k) (omega arith)
       ∙ howMany-same _ _ (length values / n) (λ j l. rw (plan-width n rs) (member-by-name (eventAt n values j) (event-length n values j some-values l) k m))
 
@@ -145,7 +150,8 @@ abbrev pub inParentOf : List Gate → Option Name → Event → Bool
 inParentOf t none e = taken e
 inParentOf t (some k) e = member t e k
 
-module _ (t : List Gate) (ok : Rules t) (n : ℕ) (some-values : 1 ≤ n) (g : Gate) (m : g ∈ t) (qs : List Quadrant) (is-quad : g .body ≡ quad qs) (good : GoodBody n (quad qs)) where
+module _ (t : List Gate) (ok : Rules t) (n : ℕ) (some-values : 1 ≤ n) (g : Gate) (m : g ∈ t) (qs : List Quadrant) (is-quad : g .body ≡ quad qs)
+    (good : GoodBody n (quad qs)) where
   quadrant-in : (q : Quadrant) → q ∈ qs → quadrantRegion (g .parent) q ∈ regions t
   quadrant-in q k = region-of-gate (quadrantRegion (g .parent) q) m (rw is-quad (map-in (quadrantRegion (g .parent)) k))
 
@@ -167,17 +173,24 @@ module _ (t : List Gate) (ok : Rules t) (n : ℕ) (some-values : 1 ≤ n) (g : G
       quadrant-value : taken e ≡ true → (q : Quadrant) → q ∈ qs → member t e (q .name) ≡ (holds (q .box) e && inParent (member t e) (g .parent))
       quadrant-value h q k = member-obeys t e ok h (quadrantRegion (g .parent) q) (quadrant-in q k)
 
-      in-parent : taken e ≡ true → (b : Bool) → inParent (member t e) (g .parent) ≡ b → sumOf (λ (q : Quadrant). cond (member t e (q .name)) 1 0) qs ≡ cond b 1 0
+      in-parent : taken e ≡ true → (b : Bool) → inParent (member t e) (g .parent) ≡ b
+          → sumOf (λ (q : Quadrant). cond (member t e (q .name)) 1 0) qs ≡ cond b 1 0
       in-parent h true a =
-          sum-same _ (λ (q : Quadrant). cond (holds (q .box) e) 1 0) qs (λ q k. rw (quadrant-value h q k, a, and-true (holds (q .box) e))) ∙ held qs e ∙ good .2 e l h
+          sum-same _ (λ (q : Quadrant). cond (holds (q .box) e) 1 0) qs (λ q k. rw (quadrant-value h q k, a, and-true (holds (q .box) e)))
+          ∙ held qs e
+          ∙ good .2 e l h
       in-parent h false a = sum-same _ (λ (q : Quadrant). 0) qs (λ q k. rw (quadrant-value h q k, a, and-none (holds (q .box) e))) ∙ sum-none qs
 
       go : (taken e ≡ true) ⊎ (taken e ≡ false) → sumOf (λ (q : Quadrant). cond (member t e (q .name)) 1 0) qs ≡ cond (inParentOf t (g .parent) e) 1 0
       go (inl h) = in-parent h (inParent (member t e) (g .parent)) refl ∙ ap (λ (b : Bool). cond b 1 0) (sym (parent-taken h (g .parent)))
-      go (inr h) = sum-same _ (λ (q : Quadrant). 0) qs (λ q k. rw (member-spoilt t e h (q .name))) ∙ sum-none qs ∙ ap (λ (b : Bool). cond b 1 0) (sym (parent-spoilt h (g .parent)))
+      go (inr h) =
+          sum-same _ (λ (q : Quadrant). 0) qs (λ q k. rw (member-spoilt t e h (q .name)))
+          ∙ sum-none qs
+          ∙ ap (λ (b : Bool). cond b 1 0) (sym (parent-spoilt h (g .parent)))
 
   pub quadrants-add-up : (values : List ℤ)
-      → sumOf (λ (q : Quadrant). howMany (λ j. member t (eventAt n values j) (q .name)) (length values / n)) qs ≡ howMany (λ j. inParentOf t (g .parent) (eventAt n values j)) (length values / n)
+      → sumOf (λ (q : Quadrant). howMany (λ j. member t (eventAt n values j) (q .name)) (length values / n)) qs
+      ≡ howMany (λ j. inParentOf t (g .parent) (eventAt n values j)) (length values / n)
   quadrants-add-up values =
       sum-counts (λ (q : Quadrant) j. member t (eventAt n values j) (q .name)) (λ j. inParentOf t (g .parent) (eventAt n values j)) qs (length values / n)
       (λ j l. one-quadrant (eventAt n values j) (event-length n values j some-values l))

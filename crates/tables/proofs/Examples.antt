@@ -90,7 +90,26 @@ tableCases =
     ∷ []
 
 table-cases : Hold tableCases
-unfolding tableCases sameWords answer inGate example exampleEvents Bits.hasBit Bits.withBit Form.spans Form.spansBy Form.matrixGood Indices.all Indices.any Indices.howMany Indices.firstBad Words.word Range.inRange Words.onScale Ellipse.inEllipse Judging.valueGood Judging.taken Polygon.side Polygon.between Polygon.onEdge Polygon.turn Polygon.crossing Polygon.edgesFrom Polygon.edges Polygon.onSome Polygon.crossings Polygon.inPolygon Bytes.same Lines.fields Lines.lines Lines.endsInLF Names.isName Numbers.isNegative Numbers.unsigned Numbers.isPositive Numbers.isNumber Numbers.numberValue Numbers.clamp Output.over Kinds.kindNamed Kinds.isStar Kinds.isNone Kinds.isParent Kinds.isComplement Kinds.operandName Kinds.isOperand Kinds.dimensionOf Kinds.valueOf Meaning.inPoly Meaning.inEllip Encoding.minWord Encoding.maxWord Encoding.rectWord Encoding.planeWord Encoding.lowerEnd Encoding.upperEnd Encoding.quadrantMin Encoding.quadrantMax Encoding.quadrantWord Meaning.parentOf Meaning.gateOf Quads.countDigit Quads.dividerAt Quads.dividerValue Quads.quadrantCount Quads.quadrantAt Quads.layoutGood Refusal.kindRefusal Refusal.lineRefusal Rules.rectRule Rules.ellipRule Rules.dividerRule Rules.dividerOf Rules.quadRule Rules.ruleOf Rules.numberRefusal Rules.optionalRefusal Rules.uncrossed Rules.repeated Rules.dimensionPasses Rules.fieldRefusal Rules.fieldsRefusal Tiling.interval Tiling.holdsInterval Tiling.isCombination Tiling.holdsCombination Tiling.heldOnce Tiling.tiles Compile.planOf Compile.compileOf Head.headFields Head.dimensions Head.isDims Head.headGood Head.gateLines Head.lineGate Head.gates Members.member Reaching.isIn Reaching.refersTo Reaching.refersAt Reaching.reachesBy Reaching.reachesItself Refusals.unlessLine Refusals.refusalAt Refusals.lineGood Refusals.uncrowded Refusals.unrepeated Refusals.isRegion Refusals.living Refusals.uncircled Refusals.sizeVerdict Refusals.gatesVerdict Refusals.tableVerdict Steps.isWritten Steps.ready Steps.waiting Steps.nextRegion Steps.orderFrom Steps.order Steps.stepWords Steps.planWords Table.nthGate Table.nthRegion Table.apart Table.newName Table.different Table.otherName Table.numberOf Table.upTo Words.number Words.part Form.kindOf Form.earlier Form.free Form.parentGood Form.differs Form.dimensionGood Form.boxWord Form.polygonWord Form.entry Form.matrixWord Form.ellipseWord Form.operandWord Form.kindAt Form.regionAt Form.lengthAt Form.bodyAt Form.nextAt Form.headWord Form.stepsWord Form.stepsEnd Form.width Form.stepCount Form.wordGood Form.planEnd Form.lowestBad Form.formOf Form.checkOf Placing.valueIn Placing.tripleIn Placing.boxIn Placing.polygonIn Placing.ellipseIn Placing.operandIn Placing.parentIn Placing.stepIn Placing.settled Placing.bitsOf Judging.firstSpoilt Judging.members Counting.eventAt Counting.takenAt Counting.spoiltAt Counting.memberAt Counting.listFrom Counting.inRegion Counting.tallyOf Counting.countPassed Counting.countOf TableCount.countTableOf
+unfolding tableCases sameWords answer inGate example exampleEvents Bits.hasBit Bits.withBit Form.spans Form.spansBy Form.matrixGood Indices.all Indices.any
+    Indices.howMany Indices.firstBad Words.word Range.inRange Words.onScale Ellipse.inEllipse Judging.valueGood Judging.taken Polygon.side Polygon.between
+    Polygon.onEdge Polygon.turn Polygon.crossing Polygon.edgesFrom Polygon.edges Polygon.onSome Polygon.crossings Polygon.inPolygon Bytes.same Lines.fields
+    Lines.lines Lines.endsInLF Names.isName Numbers.isNegative Numbers.unsigned Numbers.isPositive Numbers.isNumber Numbers.numberValue Numbers.clamp
+    Output.over Kinds.kindNamed Kinds.isStar Kinds.isNone Kinds.isParent Kinds.isComplement Kinds.operandName Kinds.isOperand Kinds.dimensionOf Kinds.valueOf
+    Meaning.inPoly Meaning.inEllip Encoding.minWord Encoding.maxWord Encoding.rectWord Encoding.planeWord Encoding.lowerEnd Encoding.upperEnd
+    Encoding.quadrantMin Encoding.quadrantMax Encoding.quadrantWord Meaning.parentOf Meaning.gateOf Quads.countDigit Quads.dividerAt Quads.dividerValue
+    Quads.quadrantCount Quads.quadrantAt Quads.layoutGood Refusal.kindRefusal Refusal.lineRefusal Rules.rectRule Rules.ellipRule Rules.dividerRule
+    Rules.dividerOf Rules.quadRule Rules.ruleOf Rules.numberRefusal Rules.optionalRefusal Rules.uncrossed Rules.repeated Rules.dimensionPasses
+    Rules.fieldRefusal Rules.fieldsRefusal Tiling.interval Tiling.holdsInterval Tiling.isCombination Tiling.holdsCombination Tiling.heldOnce Tiling.tiles
+    Compile.planOf Compile.compileOf Head.headFields Head.dimensions Head.isDims Head.headGood Head.gateLines Head.lineGate Head.gates Members.member
+    Reaching.isIn Reaching.refersTo Reaching.refersAt Reaching.reachesBy Reaching.reachesItself Refusals.unlessLine Refusals.refusalAt Refusals.lineGood
+    Refusals.uncrowded Refusals.unrepeated Refusals.isRegion Refusals.living Refusals.uncircled Refusals.sizeVerdict Refusals.gatesVerdict Refusals.tableVerdict
+    Steps.isWritten Steps.ready Steps.waiting Steps.nextRegion Steps.orderFrom Steps.order Steps.stepWords Steps.planWords Table.nthGate Table.nthRegion
+    Table.apart Table.newName Table.different Table.otherName Table.numberOf Table.upTo Words.number Words.part Form.kindOf Form.earlier Form.free
+    Form.parentGood Form.differs Form.dimensionGood Form.boxWord Form.polygonWord Form.entry Form.matrixWord Form.ellipseWord Form.operandWord Form.kindAt
+    Form.regionAt Form.lengthAt Form.bodyAt Form.nextAt Form.headWord Form.stepsWord Form.stepsEnd Form.width Form.stepCount Form.wordGood Form.planEnd
+    Form.lowestBad Form.formOf Form.checkOf Placing.valueIn Placing.tripleIn Placing.boxIn Placing.polygonIn Placing.ellipseIn Placing.operandIn
+    Placing.parentIn Placing.stepIn Placing.settled Placing.bitsOf Judging.firstSpoilt Judging.members Counting.eventAt Counting.takenAt Counting.spoiltAt
+    Counting.memberAt Counting.listFrom Counting.inRegion Counting.tallyOf Counting.countPassed Counting.countOf TableCount.countTableOf
 table-cases = (refl, (refl, (refl, (refl, (refl, (refl, (refl, tt)))))))
 
 hold-both : (a b : List Case) → Hold a → Hold b → Hold (a ++ b)

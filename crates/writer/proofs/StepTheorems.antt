@@ -88,7 +88,8 @@ length-in head Or fs a = omega (arith, span-high 2 63 (length fs - 3) (a .shape)
 length-in head Not fs a = omega (arith, eqb-true (length fs - 3) 1 (a .shape))
 length-in head Unknown fs a = absurd (true≢false (a .known))
 
-leaf-in : (head : List (List ℕ)) (kind : LineKind) (fs : List (List ℕ)) (q : ℕ) → isUnknown kind ≡ false → combines kind ≡ false → (l : Leaf) × (lineShape head kind fs q ≡ leaf l)
+leaf-in : (head : List (List ℕ)) (kind : LineKind) (fs : List (List ℕ)) (q : ℕ) → isUnknown kind ≡ false → combines kind ≡ false
+    → (l : Leaf) × (lineShape head kind fs q ≡ leaf l)
 leaf-in head Rect fs q u c = (rect head fs, refl)
 leaf-in head Poly fs q u c = (poly head fs, refl)
 leaf-in head Ellip fs q u c = (ellip head fs, refl)

@@ -8,8 +8,9 @@ use Rattle.compiler.proofs.put_plan.Tie as tie
 
 put-steps-requires : tie.Need-put-steps-requires
 put-steps-requires c κs =
-    let entry = c .before .before .before .before .before .before .before .before .before .before .before .before in
-    let region-total = c .before .before .before .before .before .before .before .before .before .before .region-total in
+    let after-region-total = c .before .before .before .before .before .before .before .before .before .before in
+    let entry = after-region-total .before .before in
+    let region-total = after-region-total .region-total in
     (entry .pre, total-is _ _ _ (entry .pre .few) (region-total .ensures))
 
 add-result : tie.Need-add-result
@@ -17,18 +18,22 @@ add-result c = let p = c .before .put-steps .ensures .0 in omega arith
 
 returns : tie.Need-returns
 returns c =
-    let entry = c .before .before .before .before .before .before .before .before .before .before .before .before .before .before in
-    let region-total = c .before .before .before .before .before .before .before .before .before .before .before .before .region-total in
-    let head-line = c .before .before .before .before .before .before .before .before .before .before .head-line in
-    let name-count = c .before .before .before .before .before .before .before .before .before .name-count in
-    let put-number = c .before .before .before .before .before .before .before .before .put-number in
-    let put-number2 = c .before .before .before .before .before .put-number2 in
-    let lesser = c .before .before .before .lesser in
+    let after-lesser = c .before .before .before in
+    let after-put-number = after-lesser .before .before .before .before .before in
+    let after-region-total = after-put-number .before .before .before .before in
+    let entry = after-region-total .before .before in
     let put-steps = c .before .put-steps in
+    let lesser = after-lesser .lesser in
+    let put-number2 = after-lesser .before .before .put-number2 in
+    let put-number = after-put-number .put-number in
+    let name-count = after-put-number .before .name-count in
+    let head-line = after-put-number .before .before .head-line in
+    let region-total = after-region-total .region-total in
+    let pre = entry .pre in
     let n = dims-read (entry .args .text .now) (head-line .ensures) (name-count .ensures) in
-    let t = total-is _ _ _ (entry .pre .few) (region-total .ensures) in (
-      plan-length _ _ (entry .pre .narrow) (entry .pre .few) (put-steps .ensures .1 .0),
-      plan-put _ _ (entry .pre .narrow) (entry .pre .few) _ n
+    let t = total-is _ _ _ (pre .few) (region-total .ensures) in (
+      plan-length _ _ (pre .narrow) (pre .few) (put-steps .ensures .1 .0),
+      plan-put _ _ (pre .narrow) (pre .few) _ n
           (put-number .ensures) t (put-number2 .ensures) (lesser .ensures) (put-steps .ensures .1 .1),
     )
 

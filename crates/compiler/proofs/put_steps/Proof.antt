@@ -29,22 +29,24 @@ same-length c =
 
 returns : tie.Need-returns Inv-loop μ-loop
 returns c =
-    let entry = c .before .before .before .before .before .before in
-    let settled = entry .pre .0 in
-    let rs = regionsAt (entry .args .text .now) (entry .args .starts .at) (entry .args .n) in
-    let region-rows = c .before .before .before .before .region-rows in
-    let head = c .before .before .before .loop in
-    let loop-test = c .before .before .loop-test in
-    let rows : Referring rs (region-rows .result .bits) =
-    rw (region-rows .ensures) (referring (entry .args .text .now) (entry .args .starts .at) (entry .args .n) settled) in
-    let e = next-is rs (region-rows .result .bits) rows (entry .pre .1) (head .written) (c .before .next-row .ensures) in
-    let total = entry .pre .1 in
-    let some-left = loop-test .taken in
+    let at-loop = c .before .before .before in
+    let entry = at-loop .before .before .before in
     let none-ready = c .if1 .taken in
-    let written = filling-stuck _ _ (head .inv) (omega arith) (omega arith) in
+    let loop-test = c .before .before .loop-test in
+    let head = at-loop .loop in
+    let some-left = loop-test .taken in
+    let region-rows = at-loop .before .region-rows in
     let fewer = head .inv .few in
     let bound = head .inv .bound in
+    let args = entry .args in
+    let settled = entry .pre .0 in
+    let total = entry .pre .1 in
     let few = settled .few in
+    let rs = regionsAt (args .text .now) (args .starts .at) (args .n) in
+    let rows : Referring rs (region-rows .result .bits) =
+    rw (region-rows .ensures) (referring (args .text .now) (args .starts .at) (args .n) settled) in
+    let e = next-is rs (region-rows .result .bits) rows total (head .written) (c .before .next-row .ensures) in
+    let written = filling-stuck _ _ (head .inv) (omega arith) (omega arith) in
     (omega arith, written)
 
 put-step-from-requires : tie.Need-put-step-from-requires Inv-loop μ-loop
@@ -55,38 +57,47 @@ put-step-from-requires c κs =
 
 add-at : tie.Need-add-at Inv-loop μ-loop
 add-at c =
-    let entry = c .before .before .before .before .before .before .before .before .before in
-    let head = c .before .before .before .before .before .before .loop in
-    let next-row = c .before .before .before .before .next-row in
+    let at-if1 = c .before .before .before in
+    let at-loop = at-if1 .before .before .before in
+    let entry = at-loop .before .before .before in
     let put-step-from = c .before .put-step-from in
-    let ready = c .before .before .before .if1 .left in
-    let total = entry .pre .1 in
+    let words = put-step-from .ensures .0 in
+    let next-row = at-if1 .before .next-row in
+    let ready = at-if1 .if1 .left in
+    let head = at-loop .loop in
     let bound = head .inv .bound in
     let fewer = head .inv .few in
-    let few = entry .pre .0 .few in
-    let short = step-short (entry .args .text .now) (entry .args .starts .at) (entry .args .n) (next-row .result) (entry .pre .0) (omega arith) in
-    let words = put-step-from .ensures .0 in
+    let args = entry .args in
+    let pre = entry .pre in
+    let total = pre .1 in
+    let few = pre .0 .few in
+    let short = step-short (args .text .now) (args .starts .at) (args .n) (next-row .result) (pre .0) (omega arith) in
     omega arith
 
 loop-again : tie.Need-loop-again Inv-loop μ-loop
 loop-again c =
-    let entry = c .before .before .before .before .before .before .before .before .before .before in
-    let settled = entry .pre .0 in
-    let rs = regionsAt (entry .args .text .now) (entry .args .starts .at) (entry .args .n) in
-    let region-rows = c .before .before .before .before .before .before .before .before .region-rows in
-    let head = c .before .before .before .before .before .before .before .loop in
-    let loop-test = c .before .before .before .before .before .before .loop-test in
-    let next-row = c .before .before .before .before .before .next-row in
-    let if1 = c .before .before .before .before .if1 in
+    let at-if1 = c .before .before .before .before in
+    let at-loop = at-if1 .before .before .before in
+    let entry = at-loop .before .before .before in
     let put-step-from = c .before .before .put-step-from in
-    let rows : Referring rs (region-rows .result .bits) =
-    rw (region-rows .ensures) (referring (entry .args .text .now) (entry .args .starts .at) (entry .args .n) settled) in
-    let e = next-is rs (region-rows .result .bits) rows (entry .pre .1) (head .written) (next-row .ensures) in
-    let total = entry .pre .1 in
-    let some-left = loop-test .taken in
-    let ready = if1 .left in
-    let short = step-short (entry .args .text .now) (entry .args .starts .at) (entry .args .n) (next-row .result) settled (omega arith) in
+    let if1 = at-if1 .if1 in
     let words = put-step-from .ensures .0 in
+    let next-row = at-if1 .before .next-row in
+    let ready = if1 .left in
+    let loop-test = at-if1 .before .before .loop-test in
+    let head = at-loop .loop in
+    let some-left = loop-test .taken in
+    let region-rows = at-loop .before .region-rows in
+    let args = entry .args in
+    let settled = entry .pre .0 in
+    let total = entry .pre .1 in
+    let n = args .n in
+    let text = args .text .now in
+    let rs = regionsAt text (args .starts .at) n in
+    let rows : Referring rs (region-rows .result .bits) =
+    rw (region-rows .ensures) (referring text (args .starts .at) n settled) in
+    let e = next-is rs (region-rows .result .bits) rows total (head .written) (next-row .ensures) in
+    let short = step-short text (args .starts .at) n (next-row .result) settled (omega arith) in
     filling-more _ _ (head .inv) (omega arith) _ e (omega arith) words (omega arith) (put-step-from .ensures .1) (c .with-bit .ensures)
 
 same-length-2 : tie.Need-same-length-2 Inv-loop μ-loop

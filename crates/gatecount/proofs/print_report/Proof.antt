@@ -17,7 +17,9 @@ slice-aggregate-write-all : tie.Need-slice-aggregate-write-all
 slice-aggregate-write-all c =
     let r = c .before .before in
     let b = r .before .before in
-    sym (length-take-le (r .report .result) (r .report .last .1 .0) (omega (arith, r .report .ensures .0, r .report .kept .1 .0, b .buffer .ensures, report-fits (b .before .before .args .input .now))))
+    let report = r .report in
+    sym (length-take-le (report .result) (report .last .1 .0)
+    (omega (arith, report .ensures .0, report .kept .1 .0, b .buffer .ensures, report-fits (b .before .before .args .input .now))))
 
 pub print-report-spec : {M : Type 1} → statement M
 print-report-spec =

@@ -30,15 +30,17 @@ is-within-requires c κs = search needs
 
 returns : tie.Need-returns Inv-loop μ-loop
 returns c =
-    let entry = c .before .before .before .before .before .before .before .before in
-    let t1 = entry .args .t1 .bits in
-    let set = entry .args .set in
-    let head = c .before .before .before .before .before .before .before .loop in
-    let loop-test = c .before .before .before .before .before .before .loop-test in
-    let row-at = c .before .before .before .row-at in
+    let after-row-at = c .before .before .before in
+    let at-test = after-row-at .before .before .before in
     let has-bit = c .before .before .has-bit in
-    sym (head .inv .1 ∙ first-stop (held (t1) (set)) (entry .args .n) (head .r) (loop-test .taken)
-    (held-not (t1) (set) (head .r) _ _ _ (row-at .ensures) (has-bit .ensures) (c .before .is-within .ensures) (c .if1 .taken)))
+    let row-at = after-row-at .row-at in
+    let loop-test = at-test .loop-test in
+    let head = at-test .before .loop in
+    let args = at-test .before .before .args in
+    let set = args .set in
+    let t1 = args .t1 .bits in
+    sym (head .inv .1 ∙ first-stop (held t1 set) (args .n) (head .r) (loop-test .taken)
+    (held-not t1 set (head .r) _ _ _ (row-at .ensures) (has-bit .ensures) (c .before .is-within .ensures) (c .if1 .taken)))
 
 add-r : tie.Need-add-r Inv-loop μ-loop
 add-r c = search needs
@@ -48,16 +50,18 @@ loop-less c = search needs
 
 loop-again : tie.Need-loop-again Inv-loop μ-loop
 loop-again c =
-    let entry = c .before .before .before .before .before .before .before .before in
-    let t1 = entry .args .t1 .bits in
-    let set = entry .args .set in
-    let head = c .before .before .before .before .before .before .before .loop in
-    let loop-test = c .before .before .before .before .before .before .loop-test in
-    let row-at = c .before .before .before .row-at in
-    let has-bit = c .before .before .has-bit in (
+    let after-row-at = c .before .before .before in
+    let at-test = after-row-at .before .before .before in
+    let has-bit = c .before .before .has-bit in
+    let row-at = after-row-at .row-at in
+    let loop-test = at-test .loop-test in
+    let head = at-test .before .loop in
+    let args = at-test .before .before .args in
+    let set = args .set in
+    let t1 = args .t1 .bits in (
       search needs,
-      head .inv .1 ∙ first-more (held (t1) (set)) (entry .args .n) (head .r) (loop-test .taken)
-          (held-still (t1) (set) (head .r) _ _ _ (row-at .ensures) (has-bit .ensures) (c .before .is-within .ensures) (c .if1 .left)),
+      head .inv .1 ∙ first-more (held t1 set) (args .n) (head .r) (loop-test .taken)
+          (held-still t1 set (head .r) _ _ _ (row-at .ensures) (has-bit .ensures) (c .before .is-within .ensures) (c .if1 .left)),
     )
 
 returns-2 : tie.Need-returns-2 Inv-loop μ-loop

@@ -32,12 +32,13 @@ same-requires c κs = search needs
 
 returns : tie.Need-returns Inv-loop μ-loop
 returns c =
-    let entry = c .before .before .before .before .before .before .before .before in
-    let head = c .before .before .before .before .loop in
-    let loop-test = c .before .before .before .loop-test in
+    let at-test = c .before .before .before in
     let region-name = c .before .before .region-name in
-    let f = fields (entry .args .line .now) in
-    let x = entry .args .x .now in
+    let loop-test = at-test .loop-test in
+    let head = at-test .before .loop in
+    let args = at-test .before .before .before .before .before .args in
+    let x = args .x .now in
+    let f = fields (args .line .now) in
     let j = head in
     sym (j .inv .1 ∙ first-stop (otherRegion f x) _ (j .q) (loop-test .taken)
     (region-here f (j .q) x (c .before .same .ensures) (region-name .ensures) (c .if1 .taken)))
@@ -50,12 +51,13 @@ loop-less c = search needs
 
 loop-again : tie.Need-loop-again Inv-loop μ-loop
 loop-again c =
-    let entry = c .before .before .before .before .before .before .before .before in
-    let head = c .before .before .before .before .loop in
-    let loop-test = c .before .before .before .loop-test in
+    let at-test = c .before .before .before in
     let region-name = c .before .before .region-name in
-    let f = fields (entry .args .line .now) in
-    let x = entry .args .x .now in
+    let loop-test = at-test .loop-test in
+    let head = at-test .before .loop in
+    let args = at-test .before .before .before .before .before .args in
+    let x = args .x .now in
+    let f = fields (args .line .now) in
     let j = head in (
       search needs,
       j .inv .1 ∙ first-more (otherRegion f x) _ (j .q) (loop-test .taken)

@@ -35,14 +35,16 @@ names-region-requires c κs = search needs
 
 returns : tie.Need-returns Inv-loop μ-loop
 returns c =
-    let entry = c .before .before .before .before .before .before .before .before .before in
-    let reference-end = c .before .before .before .before .before .before .reference-end in
-    let head = c .before .before .before .before .before .loop in
-    let loop-test = c .before .before .before .before .loop-test in
-    let has-reference = c .before .before .before .has-reference in
+    let after-has-reference = c .before .before .before in
+    let after-reference-end = after-has-reference .before .before .before in
     let reference = c .before .before .reference in
-    let f = fields (entry .args .line .now) in
-    let g = fields (entry .args .other .now) in
+    let has-reference = after-has-reference .has-reference in
+    let loop-test = after-has-reference .before .loop-test in
+    let head = after-has-reference .before .before .loop in
+    let reference-end = after-reference-end .reference-end in
+    let args = after-reference-end .before .before .before .args in
+    let f = fields (args .line .now) in
+    let g = fields (args .other .now) in
     let j = head in
     refers-found f g (reference-end .ensures .0) (j .inv .2 ∙ first-stop (passesBy f g) _ (j .k) (loop-test .taken)
     (passes-not f g (j .k) (has-reference .ensures) (reference .ensures) (c .before .names-region .ensures) (c .if1 .taken))) (loop-test .taken)
@@ -55,13 +57,14 @@ loop-less c = search needs
 
 loop-again : tie.Need-loop-again Inv-loop μ-loop
 loop-again c =
-    let entry = c .before .before .before .before .before .before .before .before .before in
-    let head = c .before .before .before .before .before .loop in
-    let loop-test = c .before .before .before .before .loop-test in
-    let has-reference = c .before .before .before .has-reference in
+    let after-has-reference = c .before .before .before in
     let reference = c .before .before .reference in
-    let f = fields (entry .args .line .now) in
-    let g = fields (entry .args .other .now) in
+    let has-reference = after-has-reference .has-reference in
+    let loop-test = after-has-reference .before .loop-test in
+    let head = after-has-reference .before .before .loop in
+    let args = after-has-reference .before .before .before .before .before .before .args in
+    let f = fields (args .line .now) in
+    let g = fields (args .other .now) in
     let j = head in (
       search needs,
       search needs,

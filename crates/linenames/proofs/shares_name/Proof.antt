@@ -45,16 +45,18 @@ gives-name-requires-2 c κs = search needs
 
 returns-2 : tie.Need-returns-2 Inv-loop μ-loop
 returns-2 c =
-    let entry = c .before .before .before .before .before .before .before .before .before .before .before in
-    let field = c .before .before .before .before .before .before .before .before .field in
-    let gives-name = c .before .before .before .before .before .before .before .gives-name in
-    let if1 = c .before .before .before .before .before .before .if1 in
-    let quad-count = c .before .before .before .before .before .quad-count in
-    let head = c .before .before .before .before .loop in
-    let loop-test = c .before .before .before .loop-test in
+    let at-test = c .before .before .before in
+    let at-if1 = at-test .before .before .before in
     let quadrant-name = c .before .before .quadrant-name in
-    let f = fields (entry .args .line .now) in
-    let g = fields (entry .args .other .now) in
+    let loop-test = at-test .loop-test in
+    let head = at-test .before .loop in
+    let quad-count = at-test .before .before .quad-count in
+    let if1 = at-if1 .if1 in
+    let gives-name = at-if1 .before .gives-name in
+    let field = at-if1 .before .before .field in
+    let args = at-if1 .before .before .before .before .before .args in
+    let f = fields (args .line .now) in
+    let g = fields (args .other .now) in
     sym (shared-rest f g (field .ensures) (gives-name .ensures) (if1 .left)
     ∙ any-stop (sharesQuadrant f g) (quadCount f) (head .q) (rw (← quad-count .ensures) (loop-test .taken))
     (shared-is f (head .q) g (quadrant-name .ensures) (c .before .gives-name2 .ensures) (c .if2 .taken)))
@@ -67,11 +69,12 @@ loop-less c = search needs
 
 loop-again : tie.Need-loop-again Inv-loop μ-loop
 loop-again c =
-    let entry = c .before .before .before .before .before .before .before .before .before .before .before in
-    let head = c .before .before .before .before .loop in
+    let at-loop = c .before .before .before .before in
     let quadrant-name = c .before .before .quadrant-name in
-    let f = fields (entry .args .line .now) in
-    let g = fields (entry .args .other .now) in (
+    let head = at-loop .loop in
+    let args = at-loop .before .before .before .before .before .before .before .args in
+    let f = fields (args .line .now) in
+    let g = fields (args .other .now) in (
       search needs,
       any-more (sharesQuadrant f g) (head .q) (head .inv .1)
           (shared-is f (head .q) g (quadrant-name .ensures) (c .before .gives-name2 .ensures) (c .if2 .left)),
@@ -79,16 +82,17 @@ loop-again c =
 
 returns-3 : tie.Need-returns-3 Inv-loop μ-loop
 returns-3 c =
-    let entry = c .before .before .before .before .before .before .before .before in
-    let field = c .before .before .before .before .before .field in
-    let gives-name = c .before .before .before .before .gives-name in
-    let if1 = c .before .before .before .if1 in
-    let quad-count = c .before .before .quad-count in
+    let at-if1 = c .before .before .before in
     let head = c .before .loop in
-    let f = fields (entry .args .line .now) in
-    let g = fields (entry .args .other .now) in
     let h = c .loop-test .left in
+    let quad-count = c .before .before .quad-count in
+    let if1 = at-if1 .if1 in
     let i = head .inv .0 in
+    let gives-name = at-if1 .before .gives-name in
+    let field = at-if1 .before .before .field in
+    let args = at-if1 .before .before .before .before .before .args in
+    let f = fields (args .line .now) in
+    let g = fields (args .other .now) in
     let e : quad-count .result ≡ head .q = omega arith in
     sym (shared-rest f g (field .ensures) (gives-name .ensures) (if1 .left) ∙ rw (← quad-count .ensures, e) (head .inv .1))
 

@@ -21,9 +21,10 @@ put-regions-requires : tie.Need-put-regions-requires
 put-regions-requires c κs =
     let s = c .before .before in
     let e = s .before .before .before in
+    let starts-of = s .starts-of in
     let t = e .args .text .now in
     let a = number-accepted 4096 t (e .pre .0) in
-    rw (gates-are 4096 t a (s .starts-of .result .at) (places t (s .starts-of .ensures)) (s .starts-of .result .lines) (line-count t (s .starts-of .ensures)), e .pre .1)
+    rw (gates-are 4096 t a (starts-of .result .at) (places t (starts-of .ensures)) (starts-of .result .lines) (line-count t (starts-of .ensures)), e .pre .1)
     (a .rules .few, omega arith, names-short 4096 t a)
 
 add-b : tie.Need-add-b
@@ -49,11 +50,13 @@ returns c =
     let u = w .before .before .before .before in
     let s = u .before .before .before in
     let e = s .before .before .before in
-    let t = e .args .text .now in
+    let starts-of = s .starts-of in
+    let args = e .args in
+    let t = args .text .now in
     let a = number-accepted 4096 t (e .pre .0) in
-    let g = gates-are 4096 t a (s .starts-of .result .at) (places t (s .starts-of .ensures)) (s .starts-of .result .lines) (line-count t (s .starts-of .ensures)) in
+    let g = gates-are 4096 t a (starts-of .result .at) (places t (starts-of .ensures)) (starts-of .result .lines) (line-count t (starts-of .ensures)) in
     let r = rw g at (u .put-regions .ensures) in
-    tally-written (regions (gates t)) (e .args .tally) (e .args .out .now) (e .args .m) (e .pre .1) (r .0) (w .put-taken .ensures) (v .put-spoilt .ensures)
+    tally-written (regions (gates t)) (args .tally) (args .out .now) (args .m) (e .pre .1) (r .0) (w .put-taken .ensures) (v .put-spoilt .ensures)
 
 pub put-tally-spec : {M : Type 1} → statement M
 put-tally-spec =

@@ -29,12 +29,13 @@ sub-if1 c = search needs
 
 returns : tie.Need-returns Inv-loop μ-loop
 returns c =
-    let entry = c .before .before .before .before .before .before .before .before in
-    let head = c .before .before .before .before .before .loop in
-    let loop-test = c .before .before .before .before .loop-test in
-    let line-at = c .before .before .before .line-at in
+    let after-line-at = c .before .before .before in
     let region-count = c .before .before .region-count in
-    numbering-full (entry .args .text .now) (entry .args .starts .at) (entry .args .n) (entry .args .x .now) (head .i) (loop-test .taken)
+    let line-at = after-line-at .line-at in
+    let loop-test = after-line-at .before .loop-test in
+    let head = after-line-at .before .before .loop in
+    let args = after-line-at .before .before .before .before .before .args in
+    numbering-full (args .text .now) (args .starts .at) (args .n) (args .x .now) (head .i) (loop-test .taken)
     (head .base) (line-at .ensures) (region-count .ensures) (head .inv .2) (c .before .find-region .ensures) (c .if1 .taken)
 
 add-result : tie.Need-add-result Inv-loop μ-loop
@@ -42,15 +43,17 @@ add-result c = search needs
 
 returns-2 : tie.Need-returns-2 Inv-loop μ-loop
 returns-2 c =
-    let entry = c .before .before .before .before .before .before .before .before .before in
-    let head = c .before .before .before .before .before .before .loop in
-    let loop-test = c .before .before .before .before .before .loop-test in
-    let line-at = c .before .before .before .before .line-at in
-    let region-count = c .before .before .before .region-count in
+    let after-region-count = c .before .before .before in
+    let at-loop = after-region-count .before .before .before in
     let find-region = c .before .before .find-region in
-    let found = numbering-found (entry .args .text .now) (entry .args .starts .at) (entry .args .n) (entry .args .x .now) (head .i) (loop-test .taken)
-    (head .base) (line-at .ensures) (region-count .ensures) (head .inv .2) (find-region .ensures) (c .if2 .taken) in
     let below = c .before .if1 .left in
+    let region-count = after-region-count .region-count in
+    let line-at = after-region-count .before .line-at in
+    let loop-test = after-region-count .before .before .loop-test in
+    let head = at-loop .loop in
+    let args = at-loop .before .before .before .args in
+    let found = numbering-found (args .text .now) (args .starts .at) (args .n) (args .x .now) (head .i) (loop-test .taken)
+    (head .base) (line-at .ensures) (region-count .ensures) (head .inv .2) (find-region .ensures) (c .if2 .taken) in
     omega (arith, found)
 
 add-base : tie.Need-add-base Inv-loop μ-loop
@@ -64,19 +67,21 @@ loop-less c = search needs
 
 loop-again : tie.Need-loop-again Inv-loop μ-loop
 loop-again c =
-    let entry = c .before .before .before .before .before .before .before .before .before in
-    let head = c .before .before .before .before .before .before .loop in
-    let loop-test = c .before .before .before .before .before .loop-test in
-    let line-at = c .before .before .before .before .line-at in
-    let region-count = c .before .before .before .region-count in
+    let after-region-count = c .before .before .before in
+    let at-loop = after-region-count .before .before .before in
+    let past = c .if2 .left in
     let find-region = c .before .before .find-region in
     let below = c .before .if1 .left in
-    let past = c .if2 .left in
-    let small = head .inv .0 in (
+    let region-count = after-region-count .region-count in
+    let line-at = after-region-count .before .line-at in
+    let loop-test = after-region-count .before .before .loop-test in
+    let head = at-loop .loop in
+    let small = head .inv .0 in
+    let args = at-loop .before .before .before .args in (
       omega arith,
       search needs,
-      numbering-next (entry .args .text .now) (entry .args .starts .at) (entry .args .n) (entry .args .x .now) (head .i)
-          (loop-test .taken) (head .base) (line-at .ensures) (region-count .ensures) (head .inv .2) (find-region .ensures) (c .if2 .left),
+      numbering-next (args .text .now) (args .starts .at) (args .n) (args .x .now) (head .i)
+          (loop-test .taken) (head .base) (line-at .ensures) (region-count .ensures) (head .inv .2) (find-region .ensures) past,
     )
 
 returns-3 : tie.Need-returns-3 Inv-loop μ-loop

@@ -67,12 +67,14 @@ returns : tie.Need-returns Inv-loop μ-loop
 returns c =
     let l = c .before in
     let h = l .before .before in
-    let w = rw (h .before .step-number .ensures, h .before .before .before .body-length .ensures) at (h .put-header .ensures .1) in
-    let e : l .loop .j ≡ bodyLength (fields (l .before .before .before .before .before .before .before .before .args .line .now)) = omega arith in
-    let entry = l .before .before .before .before .before .before .before .before in
-    let fs = fields (entry .args .line .now) in
-    let word = operandAt (regionsAt (entry .args .text .now) (entry .args .starts .at) (entry .args .n)) fs in
-    (omega (arith, step-length fs (entry .args .region) (entry .args .parent) word), rw (l .loop .inv .2, e) (step-again _ _ _ _ _ _ _ w))
+    let after-body-length = h .before .before .before in
+    let loop = l .loop in
+    let args = after-body-length .before .before .before .args in
+    let w = rw (h .before .step-number .ensures, after-body-length .body-length .ensures) at (h .put-header .ensures .1) in
+    let e : loop .j ≡ bodyLength (fields (args .line .now)) = omega arith in
+    let fs = fields (args .line .now) in
+    let word = operandAt (regionsAt (args .text .now) (args .starts .at) (args .n)) fs in
+    (omega (arith, step-length fs (args .region) (args .parent) word), rw (loop .inv .2, e) (step-again _ _ _ _ _ _ _ w))
 
 pub put-combination-step-spec : {M : Type 1} → statement M
 put-combination-step-spec =

@@ -37,65 +37,73 @@ refusal-of-requires c κs =
 
 add-line : tie.Need-add-t11 Inv-loop μ-loop
 add-line c =
-    let entry = c .before .before .before .before .before .before .before .before .before in
-    let head = c .before .before .before .before .before .loop in
-    let good = entry .good in
+    let at-test = c .before .before .before .before in
+    let head = at-test .before .loop in
+    let inside = at-test .loop-test .taken in
     let behind = head .inv .behind in
-    let inside = c .before .before .before .before .loop-test .taken in
+    let good = at-test .before .before .before .before .before .good in
     omega arith
 
 returns : tie.Need-returns Inv-loop μ-loop
 returns c =
-    let entry = c .before .before .before .before .before .before .before .before .before in
-    let head-line = c .before .before .before .before .before .before .before .head-line in
-    let head = c .before .before .before .before .before .loop in
-    let loop-test = c .before .before .before .before .loop-test in
-    let line-from = c .before .before .before .line-from in
+    let after-line-from = c .before .before .before in
+    let after-head-line = after-line-from .before .before .before .before in
+    let entry = after-head-line .before .before in
     let line-refusal = c .before .before .line-refusal in
+    let line-from = after-line-from .line-from in
+    let loop-test = after-line-from .before .loop-test in
+    let head = after-line-from .before .before .loop in
+    let head-line = after-head-line .head-line in
     λ v. line-refused (entry .args .text .now) (head .inv) (loop-test .taken) (head-line .ensures) (line-from .ensures) (line-refusal .ensures)
     (c .before .if1 .taken) (c .refusal-of .ensures) v
 
 add-at-2 : tie.Need-add-at-2 Inv-loop μ-loop
 add-at-2 c =
-    let entry = c .before .before .before .before .before .before .before .before .before in
-    let head = c .before .before .before .before .before .loop in
-    let good = entry .good in
+    let at-test = c .before .before .before .before in
+    let entry = at-test .before .before .before .before .before in
     let found = c .find2 .ensures in
-    let before-end = c .before .before .before .before .loop-test .taken in
+    let head = at-test .before .loop in
+    let before-end = at-test .loop-test .taken in
+    let good = entry .good in
     let inside = find-inside (entry .args .text .now) (head .at) 10 (omega arith) in
     omega arith
 
 add-i : tie.Need-add-i Inv-loop μ-loop
 add-i c =
-    let entry = c .before .before .before .before .before .before .before .before .before in
-    let head = c .before .before .before .before .before .loop in
-    let good = entry .good in
+    let at-test = c .before .before .before .before in
+    let head = at-test .before .loop in
+    let before-end = at-test .loop-test .taken in
     let behind = head .inv .behind in
-    let before-end = c .before .before .before .before .loop-test .taken in
+    let good = at-test .before .before .before .before .before .good in
     omega arith
 
 loop-less : tie.Need-loop-less Inv-loop μ-loop
 loop-less c =
-    let entry = c .before .before .before .before .before .before .before .before .before in
-    let head = c .before .before .before .before .before .loop in
+    let at-test = c .before .before .before .before in
+    let entry = at-test .before .before .before .before .before in
     let found = c .find2 .ensures in
-    let before-end = c .before .before .before .before .loop-test .taken in
+    let head = at-test .before .loop in
+    let before-end = at-test .loop-test .taken in
     let beyond = find-from (entry .args .text .now) (head .at) 10 in
     omega arith
 
 loop-again : tie.Need-loop-again Inv-loop μ-loop
 loop-again c =
-    let entry = c .before .before .before .before .before .before .before .before .before in
-    let head-line = c .before .before .before .before .before .before .before .head-line in
-    let head = c .before .before .before .before .before .loop in
-    let loop-test = c .before .before .before .before .loop-test in
-    let line-from = c .before .before .before .line-from in
+    let after-line-from = c .before .before .before in
+    let after-head-line = after-line-from .before .before .before .before in
+    let entry = after-head-line .before .before in
     let line-refusal = c .before .before .line-refusal in
+    let line-from = after-line-from .line-from in
+    let loop-test = after-line-from .before .loop-test in
+    let head = after-line-from .before .before .loop in
+    let head-line = after-head-line .head-line in
     cursor-next (entry .args .text .now) (head .inv) (loop-test .taken) (head-line .ensures) (line-from .ensures) (line-refusal .ensures)
     (c .before .if1 .left) (c .find2 .ensures)
 
 names-refusal-requires : tie.Need-names-refusal-requires Inv-loop μ-loop
-names-refusal-requires c κs = lines-good (c .before .before .before .before .before .args .text .now) (c .before .loop .inv) (c .loop-test .left)
+names-refusal-requires c κs =
+    let entry = c .before .before .before .before .before in
+    lines-good (entry .args .text .now) (c .before .loop .inv) (c .loop-test .left)
 
 returns-2 : tie.Need-returns-2 Inv-loop μ-loop
 returns-2 c =

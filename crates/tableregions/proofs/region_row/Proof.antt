@@ -33,12 +33,14 @@ loop-holds c = (search needs, search needs, refl)
 
 loop-again : tie.Need-loop-again Inv-loop μ-loop
 loop-again c =
-    let entry = c .before .before .before .before .before .before .before .before .before .before .before in
-    let line-at = c .before .before .before .before .before .before .before .line-at in
-    let head = c .before .before .before .before .before .loop in
-    let reference = c .before .before .before .reference in
+    let after-reference = c .before .before .before in
+    let after-line-at = after-reference .before .before .before .before in
     let number-of = c .before .before .number-of in
-    let rs = regionsAt (entry .args .text .now) (entry .args .starts .at) (entry .args .n) in (
+    let reference = after-reference .reference in
+    let head = after-reference .before .before .loop in
+    let line-at = after-line-at .line-at in
+    let args = after-line-at .before .before .before .before .args in
+    let rs = regionsAt (args .text .now) (args .starts .at) (args .n) in (
       search needs,
       search needs,
       gathered-more rs (fields (line-at .result .now)) (head .k) (head .row) (head .inv .0) (head .inv .2) (reference .ensures) (number-of .ensures)
@@ -47,15 +49,16 @@ loop-again c =
 
 returns-2 : tie.Need-returns-2 Inv-loop μ-loop
 returns-2 c =
-    let entry = c .before .before .before .before .before .before .before in
-    let locate = c .before .before .before .before .before .locate in
-    let if1 = c .before .before .before .before .if1 in
-    let line-at = c .before .before .before .line-at in
-    let reference-end = c .before .before .reference-end in
+    let after-line-at = c .before .before .before in
     let head = c .before .loop in
     let whole = c .loop-test .left in
+    let reference-end = c .before .before .reference-end in
+    let line-at = after-line-at .line-at in
     let inside = head .inv .1 in
-    gathered-all (entry .args .text .now) (entry .args .starts .at) (entry .args .n) (entry .args .r) (locate .ensures) (if1 .left) (line-at .ensures)
+    let if1 = after-line-at .before .if1 in
+    let locate = after-line-at .before .before .locate in
+    let args = after-line-at .before .before .before .before .args in
+    gathered-all (args .text .now) (args .starts .at) (args .n) (args .r) (locate .ensures) (if1 .left) (line-at .ensures)
     (reference-end .ensures) (head .k) (head .row) (omega arith) (head .inv .2)
 
 pub region-row-spec : {M : Type 1} → statement M

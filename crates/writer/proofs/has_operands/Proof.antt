@@ -1,3 +1,4 @@
+-- `has_operands`: by the kind of the line.
 use borrow.Author.Needs.{needs}
 use Rattle.writer.proofs.has_operands.Statement.{statement}
 use Rattle.writer.proofs.has_operands.Tie as tie

@@ -1,3 +1,4 @@
+-- `number_word`: a number held at 65,535 fits a word.
 use native.Mathlib.Omega.{arith}
 use mir.Syntax.{w32}
 use mir.ValLaws.{toZ-pos}

@@ -1,3 +1,4 @@
+-- `parent_word`: a region, or none from 64 on.
 use native.Mathlib.Omega.{arith}
 use borrow.Author.Needs.{needs}
 use borrow.Author.Tests.{lt-ltb, le-ltb}

@@ -36,9 +36,8 @@ returns-2 : tie.Need-returns-2
 returns-2 c =
     let l = c .before in
     let h = l .before .before .before .before in
+    let a = h .before .before .before .before .before .before .args in
     let w = rw (h .before .before .step-number .ensures, h .before .body-length .ensures) at (h .put-header .ensures .1) in
-    let entry = c .before .before .before .before .before .before .before .before .before .before .before in
-    let a = entry .args in
     let fs = fields (a .line .now) in
     let word = bodyWordOf (drop 1 (fields (a .head .now))) fs (a .q) in (
       omega (arith, step-length fs (a .region) (a .parent) word, length-tab word (bodyLength fs)),

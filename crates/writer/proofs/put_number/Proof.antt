@@ -1,3 +1,4 @@
+-- `put_number`: one word, the number's.
 use mir.Syntax.{w32}
 use mir.ValLaws.{toZ-ofZ}
 use borrow.Author.Needs.{needs}

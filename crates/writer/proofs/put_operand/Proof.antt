@@ -1,3 +1,4 @@
+-- `put_operand`: one word, the operand's.
 use mir.Syntax.{w32}
 use mir.ValLaws.{toZ-ofZ}
 use borrow.Author.Needs.{needs}

@@ -10,7 +10,10 @@ use Rattle.gatelines.proofs.words.rect_word.Statement.{statement}
 use Rattle.gatelines.proofs.words.rect_word.Tie as tie
 
 add-field : tie.Need-add-field
-add-field c = let h = fields-length (c .before .before .args .line .now) in let g = c .before .before .pre .1 in search needs
+add-field c =
+    let h = fields-length (c .before .before .args .line .now) in
+    let g = c .before .before .pre .1 in
+    search needs
 
 returns : tie.Need-returns
 unfolding rectWord
@@ -25,7 +28,13 @@ returns-2 c =
     let g = c .before in
     let f = g .before .before in
     let i = f .before .before .before .args .i in
-    rw (ne-eqb (i % 3) 0 (g .before .if1 .left), eq-eqb (i % 3) 1 (g .if2 .taken), toZ-ofZ w32 _ (record { sfits = c .min-word .ok }), c .min-word .ensures, f .field .ensures)
+    rw (
+      ne-eqb (i % 3) 0 (g .before .if1 .left),
+      eq-eqb (i % 3) 1 (g .if2 .taken),
+      toZ-ofZ w32 _ (record { sfits = c .min-word .ok }),
+      c .min-word .ensures,
+      f .field .ensures,
+    )
 
 returns-3 : tie.Need-returns-3
 unfolding rectWord
@@ -33,7 +42,13 @@ returns-3 c =
     let g = c .before in
     let f = g .before .before in
     let i = f .before .before .before .args .i in
-    rw (ne-eqb (i % 3) 0 (g .before .if1 .left), ne-eqb (i % 3) 1 (g .if2 .left), toZ-ofZ w32 _ (record { sfits = c .max-word .ok }), c .max-word .ensures, f .field .ensures)
+    rw (
+      ne-eqb (i % 3) 0 (g .before .if1 .left),
+      ne-eqb (i % 3) 1 (g .if2 .left),
+      toZ-ofZ w32 _ (record { sfits = c .max-word .ok }),
+      c .max-word .ensures,
+      f .field .ensures,
+    )
 
 pub rect-word-spec : {M : Type 1} → statement M
 rect-word-spec =

@@ -71,7 +71,9 @@ module _ (turn : tie.After-number-at2 Inv-loop μ-loop) where
   some = turn .before .loop-test .taken
 
   few : length plan ≤ 4096
-  few = plan-few plan (turn .before .before .before .before .before .before .before .before .before .before .pre)
+  few =
+      let entry = turn .before .before .before .before .before .before .before .before .before .before in
+      plan-few plan (entry .pre)
 
   inside : word + size ≤ length plan
   inside = step-inside plan left word ends some (turn .number-at2 .ensures)
@@ -120,7 +122,9 @@ loop-again c =
     )
 
 same-length : tie.Need-same-length Inv-loop μ-loop
-same-length c = c .before .loop .inv .2 ∙ c .before .before .before .before .before .put-line .kept .0
+same-length c =
+    let after-put-line = c .before .before .before .before .before in
+    c .before .loop .inv .2 ∙ after-put-line .put-line .kept .0
 
 returns : tie.Need-returns Inv-loop μ-loop
 returns c =

@@ -32,15 +32,17 @@ has-bit-requires c κs = search needs
 
 returns : tie.Need-returns Inv-loop μ-loop
 returns c =
-    let entry = c .before .before .before .before .before .before .before .before in
-    let n = entry .args .n in
-    let gate-rows = c .before .before .before .before .before .before .gate-rows in
-    let reach = c .before .before .before .before .before .reach in
-    let head = c .before .before .before .before .loop in
-    let loop-test = c .before .before .before .loop-test in
+    let at-test = c .before .before .before in
+    let after-gate-rows = at-test .before .before .before in
     let row-in = c .before .before .row-in in
+    let loop-test = at-test .loop-test in
+    let head = at-test .before .loop in
+    let reach = at-test .before .before .reach in
+    let gate-rows = after-gate-rows .gate-rows in
+    let args = after-gate-rows .before .before .args in
+    let n = args .n in
     let j = head in
-    sym (sym (circles-are (entry .args .text .now) (entry .args .starts .at) n (gate-rows .result .bits)
+    sym (sym (circles-are (args .text .now) (args .starts .at) n (gate-rows .result .bits)
     (reach .result .bits) (gate-rows .ensures) (reach .ensures)) ∙ j .inv .1
     ∙ first-stop (unlooped (reach .result .bits)) n (j .i) (loop-test .taken)
     (looped-as (reach .result .bits) (j .i) (row-in .ensures) (c .before .has-bit .ensures) (c .if1 .taken)))
@@ -53,11 +55,12 @@ loop-less c = search needs
 
 loop-again : tie.Need-loop-again Inv-loop μ-loop
 loop-again c =
-    let entry = c .before .before .before .before .before .before .before .before in
-    let reach = c .before .before .before .before .before .reach in
-    let head = c .before .before .before .before .loop in
-    let loop-test = c .before .before .before .loop-test in
+    let at-test = c .before .before .before in
+    let entry = at-test .before .before .before .before .before in
     let row-in = c .before .before .row-in in
+    let loop-test = at-test .loop-test in
+    let head = at-test .before .loop in
+    let reach = at-test .before .before .reach in
     let j = head in (
       search needs,
       j .inv .1 ∙ first-more (unlooped (reach .result .bits)) (entry .args .n) (j .i) (loop-test .taken)

@@ -45,22 +45,25 @@ number-of-requires c κs = search needs
 
 returns : tie.Need-returns Inv-loop μ-loop
 returns c =
-    let entry = c .before .before .before .before .before .before .before .before .before .before in
-    let t = entry .args .text .now in
-    let s = entry .args .starts .at in
-    let n = entry .args .n in
-    let i = entry .args .i in
-    let few = entry .pre .0 in
-    let line-at = c .before .before .before .before .before .before .before .line-at in
-    let reference-end = c .before .before .before .before .before .before .reference-end in
-    let head = c .before .before .before .before .before .loop in
-    let loop-test = c .before .before .before .before .loop-test in
-    let has-reference = c .before .before .before .has-reference in
+    let after-has-reference = c .before .before .before in
+    let after-reference-end = after-has-reference .before .before .before in
+    let entry = after-reference-end .before .before .before .before in
     let reference = c .before .before .reference in
-    let total = total-is t s n few (c .before .before .before .before .before .before .before .before .region-total .ensures) in
+    let has-reference = after-has-reference .has-reference in
+    let loop-test = after-has-reference .before .loop-test in
+    let head = after-has-reference .before .before .loop in
+    let inside = loop-test .taken in
+    let reference-end = after-reference-end .reference-end in
+    let line-at = after-reference-end .before .line-at in
+    let args = entry .args in
+    let n = args .n in
+    let i = args .i in
+    let few = entry .pre .0 in
+    let t = args .text .now in
+    let s = args .starts .at in
+    let total = total-is t s n few (after-reference-end .before .before .region-total .ensures) in
     let number = number-is t s n few _ (c .before .number-of .ensures) in
     let end = end-read t s i (line-at .ensures) (reference-end .ensures .0) in
-    let inside = loop-test .taken in
     sym (dead-here t s n i (entry .pre .1) (head .k) (head .inv .0) (omega arith)
     (dead-has t s n i (head .k) (line-at .ensures) (has-reference .ensures) (reference .ensures) total number (c .if1 .taken))
     (dead-region t s n i (head .k) (line-at .ensures) (has-reference .ensures) (reference .ensures) total number (c .if1 .taken)))
@@ -73,21 +76,24 @@ loop-less c = search needs
 
 loop-again : tie.Need-loop-again Inv-loop μ-loop
 loop-again c =
-    let entry = c .before .before .before .before .before .before .before .before .before .before in
-    let t = entry .args .text .now in
-    let s = entry .args .starts .at in
-    let n = entry .args .n in
-    let few = entry .pre .0 in
-    let line-at = c .before .before .before .before .before .before .before .line-at in
-    let head = c .before .before .before .before .before .loop in
-    let has-reference = c .before .before .before .has-reference in
+    let after-has-reference = c .before .before .before in
+    let after-line-at = after-has-reference .before .before .before .before in
+    let entry = after-line-at .before .before .before in
     let reference = c .before .before .reference in
-    let total = total-is t s n few (c .before .before .before .before .before .before .before .before .region-total .ensures) in
+    let has-reference = after-has-reference .has-reference in
+    let head = after-has-reference .before .before .loop in
+    let line-at = after-line-at .line-at in
+    let args = entry .args in
+    let n = args .n in
+    let few = entry .pre .0 in
+    let t = args .text .now in
+    let s = args .starts .at in
+    let total = total-is t s n few (after-line-at .before .region-total .ensures) in
     let number = number-is t s n few _ (c .before .number-of .ensures) in (
       search needs,
       search needs,
       below-more _ (head .k) (head .inv .2)
-          (λ l u. live-region t s n (entry .args .i) (head .k) (line-at .ensures) (has-reference .ensures) (reference .ensures) total number
+          (λ l u. live-region t s n (args .i) (head .k) (line-at .ensures) (has-reference .ensures) (reference .ensures) total number
           (c .if1 .left) u),
     )
 

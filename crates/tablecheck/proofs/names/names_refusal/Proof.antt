@@ -34,7 +34,9 @@ module _ (b : Crowding) where
   indexed = places text (b .before .before .before .starts-of .ensures)
 
   read : n ≡ min (length (gateLines text)) 65
-  read = count-read text (line-count text (b .before .before .before .starts-of .ensures)) (b .before .before .minus .ensures) (b .before .lesser .ensures)
+  read =
+      let after-starts-of = b .before .before .before in
+      count-read text (line-count text (after-starts-of .starts-of .ensures)) (b .before .before .minus .ensures) (b .before .lesser .ensures)
 
   module _ (h : n ≤ b .first-crowded .result) where
     at-most-64-regions : length (regionsAt text starts n) ≤ 64
@@ -60,35 +62,42 @@ first-dead-requires c κs = at-most-64-regions (c .before .before .before) (c .b
 
 returns-3 : tie.Need-returns-3
 returns-3 c =
-    let b = c .before .before .before .before .before in
-    let if1 = c .before .before .before .before .if1 in
-    let first-repeated = c .before .before .before .first-repeated in
+    let after-first-repeated = c .before .before .before in
+    let b = after-first-repeated .before .before in
     let if2 = c .before .before .if2 in
+    let first-repeated = after-first-repeated .first-repeated in
+    let if1 = after-first-repeated .before .if1 in
     λ v. dead-refused (text b) (starts b) (indexed b) (good b) (read b) (b .first-crowded .ensures) (if1 .left)
     (first-repeated .ensures) (if2 .left) (c .before .first-dead .ensures) (c .if3 .taken) v
 
 first-circled-requires : tie.Need-first-circled-requires
-first-circled-requires c κs = at-most-64-gates (c .before .before .before .before .before) (c .before .before .before .before .if1 .left)
+first-circled-requires c κs =
+    let at-if1 = c .before .before .before .before in
+    at-most-64-gates (at-if1 .before) (at-if1 .if1 .left)
 
 returns-4 : tie.Need-returns-4
 returns-4 c =
-    let b = c .before .before .before .before .before .before .before in
-    let if1 = c .before .before .before .before .before .before .if1 in
-    let first-repeated = c .before .before .before .before .before .first-repeated in
-    let if2 = c .before .before .before .before .if2 in
-    let first-dead = c .before .before .before .first-dead in
+    let after-first-dead = c .before .before .before in
+    let at-if1 = after-first-dead .before .before .before in
+    let b = at-if1 .before in
     let if3 = c .before .before .if3 in
+    let first-dead = after-first-dead .first-dead in
+    let if2 = after-first-dead .before .if2 in
+    let first-repeated = after-first-dead .before .before .first-repeated in
+    let if1 = at-if1 .if1 in
     λ v. circled-refused (text b) (starts b) (indexed b) (good b) (read b) (b .first-crowded .ensures) (if1 .left)
     (first-repeated .ensures) (if2 .left) (first-dead .ensures) (if3 .left) (c .before .first-circled .ensures) (c .if4 .taken) v
 
 returns-5 : tie.Need-returns-5
 returns-5 c =
-    let b = c .before .before .before .before .before .before .before in
-    let if1 = c .before .before .before .before .before .before .if1 in
-    let first-repeated = c .before .before .before .before .before .first-repeated in
-    let if2 = c .before .before .before .before .if2 in
-    let first-dead = c .before .before .before .first-dead in
+    let after-first-dead = c .before .before .before in
+    let at-if1 = after-first-dead .before .before .before in
+    let b = at-if1 .before in
     let if3 = c .before .before .if3 in
+    let first-dead = after-first-dead .first-dead in
+    let if2 = after-first-dead .before .if2 in
+    let first-repeated = after-first-dead .before .before .first-repeated in
+    let if1 = at-if1 .if1 in
     λ v. none-refused (text b) (starts b) (indexed b) (good b) (read b) (b .first-crowded .ensures) (if1 .left)
     (first-repeated .ensures) (if2 .left) (first-dead .ensures) (if3 .left) (c .before .first-circled .ensures) (c .if4 .left) v
 

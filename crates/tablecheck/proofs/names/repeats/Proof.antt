@@ -45,16 +45,18 @@ shares-name-requires c κs = search needs
 
 returns-2 : tie.Need-returns-2 Inv-loop μ-loop
 returns-2 c =
-    let entry = c .before .before .before .before .before .before .before .before .before in
-    let starts = entry .args .starts .at in
-    let text = entry .args .text .now in
-    let i = entry .args .i in
-    let line-at = c .before .before .before .before .before .before .before .line-at in
-    let own-different = c .before .before .before .before .before .before .own-different in
-    let if1 = c .before .before .before .before .before .if1 in
-    let head = c .before .before .before .before .loop in
-    let loop-test = c .before .before .before .loop-test in
+    let at-test = c .before .before .before in
+    let after-own-different = at-test .before .before .before in
     let line-at2 = c .before .before .line-at2 in
+    let loop-test = at-test .loop-test in
+    let head = at-test .before .loop in
+    let if1 = at-test .before .before .if1 in
+    let own-different = after-own-different .own-different in
+    let line-at = after-own-different .before .line-at in
+    let args = after-own-different .before .before .before .args in
+    let i = args .i in
+    let starts = args .starts .at in
+    let text = args .text .now in
     let s = sharesAt text starts i in
     sym (repeats-rest text starts i (own-read text starts i (line-at .ensures) (own-different .ensures)) (not-false _ (if1 .left))
     ∙ any-stop s i (head .j) (loop-test .taken) (sym (shares-read text starts i (line-at .ensures) (head .j) (line-at2 .ensures)
@@ -68,13 +70,15 @@ loop-less c = search needs
 
 loop-again : tie.Need-loop-again Inv-loop μ-loop
 loop-again c =
-    let entry = c .before .before .before .before .before .before .before .before .before in
-    let starts = entry .args .starts .at in
-    let text = entry .args .text .now in
-    let i = entry .args .i in
-    let line-at = c .before .before .before .before .before .before .before .line-at in
-    let head = c .before .before .before .before .loop in
+    let at-loop = c .before .before .before .before in
+    let after-line-at = at-loop .before .before .before in
     let line-at2 = c .before .before .line-at2 in
+    let head = at-loop .loop in
+    let line-at = after-line-at .line-at in
+    let args = after-line-at .before .before .args in
+    let i = args .i in
+    let starts = args .starts .at in
+    let text = args .text .now in
     let s = sharesAt text starts i in (
       search needs,
       any-more s (head .j) (head .inv .1) (sym (shares-read text starts i (line-at .ensures) (head .j) (line-at2 .ensures)
@@ -83,16 +87,17 @@ loop-again c =
 
 returns-3 : tie.Need-returns-3 Inv-loop μ-loop
 returns-3 c =
-    let entry = c .before .before .before .before .before .before in
-    let starts = entry .args .starts .at in
-    let text = entry .args .text .now in
-    let i = entry .args .i in
-    let line-at = c .before .before .before .before .line-at in
-    let own-different = c .before .before .before .own-different in
-    let if1 = c .before .before .if1 in
+    let after-own-different = c .before .before .before in
     let head = c .before .loop in
     let h = c .loop-test .left in
+    let if1 = c .before .before .if1 in
+    let own-different = after-own-different .own-different in
     let k = head .inv .0 in
+    let line-at = after-own-different .before .line-at in
+    let args = after-own-different .before .before .before .args in
+    let i = args .i in
+    let starts = args .starts .at in
+    let text = args .text .now in
     let e : i ≡ head .j = omega arith in
     sym (repeats-rest text starts i (own-read text starts i (line-at .ensures) (own-different .ensures)) (not-false _ (if1 .left))
     ∙ (ap (any (sharesAt text starts i)) e ∙ head .inv .1))
