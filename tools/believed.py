@@ -3,7 +3,7 @@
 
     tools/believed.py            prints the tables that docs/DEMANDS.md holds
     tools/believed.py --write    puts them there
-    tools/believed.py --check    exit status 1 where docs/DEMANDS.md holds something else
+    tools/believed.py --check    exit status 1 where docs/DEMANDS.md holds something else, or such a file imports from specs/Inner
 
 A line counts that is not blank, no comment, no import and no `pub mod`.
 """
@@ -67,7 +67,11 @@ def main():
     if sys.argv[1] == '--write':
         with open(DOCUMENT, 'w', encoding='utf-8') as file:
             file.write(before + BEGIN + text + END + after)
-    elif held != text:
+        return
+    inner = [path for crate in crates() for path, _ in files(crate) if re.search(r'^use \S*\.specs\.Inner\.', open(path, encoding='utf-8').read(), re.M)]
+    if inner:
+        sys.exit('definitions to believe that rest on inner ones: %s' % ' '.join(inner))
+    if held != text:
         sys.exit('%s holds other files or lines than crates/*/specs: run tools/believed.py --write' % DOCUMENT)
 
 

@@ -3,7 +3,7 @@ use mathlib.Core.Bool.{Bool, true, false}
 use mathlib.Core.List.{List}
 use lib.IntN.{ℤ}
 use Rattle.plans.specs.Refusals.{Verdict, passed, refused}
-use Rattle.gates.specs.LineRefusals.{lineNumber}
+use Rattle.gates.specs.LineRefusals.{lineRefusalNumber}
 use Rattle.tables.specs.Compile.{Compiling, uncompiled}
 use Rattle.compiler.specs.declared.Refusal.{Refusal}
 use Rattle.compiler.specs.declared.Refusal.the-variants.{LongTable, OpenLine, BadHead, BadLine, Crowded, TwinName, DeadReference, Circle, LongPlan, ShortSlice}
@@ -17,7 +17,7 @@ abbrev pub tableRefusal : Refusal → Verdict
 tableRefusal LongTable = refused 1 0
 tableRefusal OpenLine = refused 2 0
 tableRefusal BadHead = refused 3 1
-tableRefusal (BadLine refusal line) = refused (lineNumber refusal) line
+tableRefusal (BadLine refusal line) = refused (lineRefusalNumber refusal) line
 tableRefusal (Crowded line) = refused 13 line
 tableRefusal (TwinName line) = refused 14 line
 tableRefusal (DeadReference line) = refused 15 line

@@ -6,7 +6,7 @@ ghost use lib.Dec.{eqb};
 ghost use Rattle.plans.specs.Refusals.{passed};
 ghost use Rattle.text.specs.Output.{Writes};
 ghost use Rattle.text.specs.Inner.Writing.{WritesFrom};
-ghost use Rattle.gates.specs.LineRefusals.{lineNumber};
+ghost use Rattle.gates.specs.LineRefusals.{lineRefusalNumber};
 ghost use Rattle.tables.specs.Head.{dimensions};
 ghost use Rattle.tables.specs.Steps.{order, stepWords, stepsWords, planWords};
 ghost use Rattle.tables.specs.Refusals.{tableVerdict};
@@ -59,8 +59,8 @@ pub enum Compiled {
     Refused(Refusal),
 }
 
-fn line_number(r: LineRefusal) -> u64
-    ensures { λ x. ⌜ x ≡ lineNumber r ⌝ }
+fn line_refusal_number(r: LineRefusal) -> u64
+    ensures { λ x. ⌜ x ≡ lineRefusalNumber r ⌝ }
 {
     match r {
         LineRefusal::UnknownKind => 4,
@@ -82,7 +82,7 @@ pub fn number_of(r: Refusal) -> u64
         Refusal::LongTable => 1,
         Refusal::OpenLine => 2,
         Refusal::BadHead => 3,
-        Refusal::BadLine { refusal, line: _ } => line_number(refusal),
+        Refusal::BadLine { refusal, line: _ } => line_refusal_number(refusal),
         Refusal::Crowded { line: _ } => 13,
         Refusal::TwinName { line: _ } => 14,
         Refusal::DeadReference { line: _ } => 15,

@@ -15,8 +15,7 @@ use Rattle.text.specs.Bytes.{bytes, same, every, before}
 use Rattle.text.specs.Numbers.{isNegative, unsigned, isPositive, isNumber, numberValue}
 use Rattle.text.specs.Inner.Kept.{kept, readNumber}
 use Rattle.integers.specs.Range.{inRange}
-use Rattle.text.specs.Lines.{fields, lines, unlines, endsInLF}
-use Rattle.text.specs.Inner.Joining.{unfields}
+use Rattle.text.specs.Lines.{fields, lines, unlines, endsInLF, unfields}
 use Rattle.text.specs.Inner.Places.{lineStarts, findFrom, lineFrom}
 use Rattle.text.proofs.TestLaws.{true≢false, and-left, and-right, passed-or-failed, lt-or-ge}
 use Rattle.text.proofs.BytesLaws.{rest-cons, before-found, before-first, same-eq}

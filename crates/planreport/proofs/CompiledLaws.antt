@@ -19,8 +19,7 @@ use Rattle.compiler.specs.declared.Refusal.{Refusal}
 use Rattle.compiler.specs.declared.Compiled.{Compiled}
 use Rattle.compiler.specs.declared.Compiled.the-variants.{Written, Refused}
 use Rattle.compiler.proofs.VerdictLaws.{verdict-numbered, number-accepted, refused-number}
-use Rattle.events.specs.Printing.{refusedLine}
-use Rattle.report.specs.Report.{unlessRefused}
+use Rattle.events.specs.Printing.{refusedLine, unlessRefused}
 use Rattle.planreport.specs.PlanText.{planText}
 use Rattle.planreport.specs.PlanReport.{planReportOf}
 use Rattle.planreport.specs.Inner.Compiling.{HoldsPlan, compiledText}

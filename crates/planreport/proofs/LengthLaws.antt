@@ -23,7 +23,7 @@ use Rattle.tables.specs.Refusals.{tableVerdict}
 use Rattle.tables.specs.Compile.{planOf}
 use Rattle.tables.proofs.CompileLaws.{plan-passes}
 use Rattle.compiler.proofs.VerdictLaws.{number-accepted}
-use Rattle.report.specs.Report.{unlessRefused}
+use Rattle.events.specs.Printing.{unlessRefused}
 use Rattle.runreport.specs.PlanReading.{fitsWord}
 use Rattle.runreport.proofs.RunLaws.{head-there}
 use Rattle.runreport.proofs.RunTheorems.{refused-length}

@@ -14,8 +14,7 @@ use Rattle.text.specs.Bytes.{bytes, same, every, before}
 use Rattle.text.specs.Inner.Counts.{without}
 use Rattle.text.specs.Numbers.{isDigit, isNegative, unsigned, isPositive, isNumber, digitsValue, numberValue}
 use Rattle.integers.specs.Range.{inRange}
-use Rattle.text.specs.Lines.{parts, fields, lines, unlines, endsInLF}
-use Rattle.text.specs.Inner.Joining.{unfields}
+use Rattle.text.specs.Lines.{parts, fields, lines, unlines, endsInLF, unfields}
 use Rattle.text.specs.Output.{decimal}
 use Rattle.text.proofs.TestLaws.{and-left, and-right, passed-or-failed, lt-or-ge}
 use Rattle.text.proofs.BytesLaws.{same-eq}

@@ -14,15 +14,11 @@ use Rattle.text.specs.Inner.Counts.{without}
 use Rattle.text.specs.Lines.{parts, lines, unlines}
 use Rattle.text.proofs.TestLaws.{and-left, and-right, passed-or-failed, lt-or-ge}
 use Rattle.text.proofs.TextTheorems.{lines-unlines}
-use Rattle.events.specs.Parting.{tableLines, hasEvents, tableEnd, tablePart, eventsEnded, eventPart}
+use Rattle.events.specs.Parting.{tableLines, hasEvents, tableEnd, tablePart, eventsEnded, eventPart, eventsFrom}
 use Rattle.events.specs.Listing.{list, ragged, badLine, values, eventsOf}
 use Rattle.events.proofs.AnswerLaws.{events-none, events-open, events-ragged, events-listed}
 use Rattle.events.proofs.EventTheorems.{table-all, input-parted}
 use Rattle.planreport.proofs.ReadBack.{part-first}
-
--- the line `events` and what follows; nothing where it is not there
-unfoldable pub eventsFrom : List ℕ → List ℕ
-eventsFrom input = drop (tableEnd input) input
 
 -- a line that is not `events`
 abbrev pub isOther : List ℕ → Bool

@@ -26,7 +26,7 @@ use Rattle.tables.specs.Compile.{planOf}
 use Rattle.tables.proofs.CompileLaws.{plan-passes}
 use Rattle.tables.proofs.CountLaws.{plan-width, counted}
 use Rattle.tables.proofs.Acceptance.{passed-accepted}
-use Rattle.events.specs.Parting.{tablePart, eventPart}
+use Rattle.events.specs.Parting.{tablePart, eventPart, eventsFrom}
 use Rattle.events.specs.Listing.{list, eventsOf}
 use Rattle.events.proofs.EventTheorems.{values-complete}
 use Rattle.report.specs.Report.{tallyLines, reportOf}
@@ -40,7 +40,7 @@ use Rattle.planreport.proofs.TextLaws.{plan-few}
 use Rattle.planreport.proofs.LengthLaws.{words-short, plan-length}
 use Rattle.planreport.proofs.FittingLaws.{words-fit}
 use Rattle.planreport.proofs.ReadBack.{AllPrintable, line-words, lines-printed, parts-printable, text-read, text-readable}
-use Rattle.planreport.proofs.RejoinedLaws.{isOther, eventsFrom, rejoined}
+use Rattle.planreport.proofs.RejoinedLaws.{isOther, rejoined}
 
 -- ---- no line of words is the line `events`
 

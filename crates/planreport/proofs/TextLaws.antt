@@ -15,8 +15,7 @@ use lib.ListN.{length, getD, drop, length-append, length-drop, drop-of-length-le
 use lib.Seq.{length-take-le}
 use borrow.Author.Tests.{lt-ltb, le-ltb}
 use Rattle.text.specs.Bytes.{bytes}
-use Rattle.text.specs.Lines.{unlines}
-use Rattle.text.specs.Inner.Joining.{unfields}
+use Rattle.text.specs.Lines.{unlines, unfields}
 use Rattle.text.specs.Output.{decimal, Writes}
 use Rattle.text.specs.Inner.Writing.{WritesFrom}
 use Rattle.text.proofs.TestLaws.{true≢false, lt-or-ge}

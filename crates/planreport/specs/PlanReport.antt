@@ -3,7 +3,7 @@ use Prim.Native.Nat.{ℕ}
 use mathlib.Core.List.{List}
 use Rattle.tables.specs.Refusals.{tableVerdict}
 use Rattle.tables.specs.Compile.{planOf}
-use Rattle.report.specs.Report.{unlessRefused}
+use Rattle.events.specs.Printing.{unlessRefused}
 use Rattle.planreport.specs.PlanText.{planText}
 
 -- its plan has room for 4,096 words

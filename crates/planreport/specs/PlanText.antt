@@ -5,8 +5,7 @@ use mathlib.Core.List.{List, [], _∷_, _++_, map}
 use lib.IntN.{ℤ, pos, natAbs}
 use lib.Signed.{ltZ}
 use Rattle.text.specs.Bytes.{bytes}
-use Rattle.text.specs.Lines.{unlines}
-use Rattle.text.specs.Inner.Joining.{unfields}
+use Rattle.text.specs.Lines.{unlines, unfields}
 use Rattle.text.specs.Output.{decimal}
 use Rattle.plans.specs.Words.{part}
 use Rattle.plans.specs.Form.{lengthAt, nextAt, stepCount}

@@ -20,13 +20,13 @@ use Rattle.tables.specs.Compile.{planOf}
 use Rattle.events.specs.Parting.{tablePart}
 use Rattle.events.specs.Listing.{Events, list, ragged, eventsOf}
 use Rattle.events.specs.Inner.Answers.{partedOf, listed, answerOf}
-use Rattle.events.specs.Printing.{refusedLine}
+use Rattle.events.specs.Printing.{refusedLine, unlessRefused}
 use Rattle.events.specs.declared.parting.Parted.{Parted}
 use Rattle.events.specs.declared.listing.Answer.{Answer}
 use Rattle.events.specs.declared.listing.Answer.the-variants.{Values, Ragged, Short}
 use Rattle.events.proofs.EventTheorems.{values-few}
 use Rattle.events.proofs.CountedLaws.{count-clamped}
-use Rattle.report.specs.Report.{unlessRefused, countedLines, printed, reportOf}
+use Rattle.report.specs.Report.{countedLines, printed, reportOf}
 
 -- ---- over 65,536 bytes, or not
 

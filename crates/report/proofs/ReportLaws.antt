@@ -24,9 +24,9 @@ use Rattle.tables.specs.Compile.{planOf}
 use Rattle.tables.proofs.Acceptance.{Accepted}
 use Rattle.events.specs.Parting.{tablePart}
 use Rattle.events.specs.Listing.{Events, list, ragged, eventsOf}
-use Rattle.events.specs.Printing.{countLine, takenLine, spoiltLine, refusedLine}
+use Rattle.events.specs.Printing.{countLine, takenLine, spoiltLine, refusedLine, unlessRefused}
 use Rattle.events.proofs.PrintingLaws.{Written, WrittenFrom, written-more}
-use Rattle.report.specs.Report.{regionLine, regionLines, tallyLines, unlessRefused, eventsLines, printed, reportOf}
+use Rattle.report.specs.Report.{regionLine, regionLines, tallyLines, eventsLines, printed, reportOf}
 use Rattle.report.specs.Inner.Short.{Short}
 use Rattle.compiler.proofs.VerdictLaws.{number-accepted}
 use Rattle.report.proofs.AcceptedLaws.{names-short}

@@ -28,8 +28,8 @@ use Rattle.counttable.specs.declared.Outcome.{Outcome}
 use Rattle.counttable.specs.declared.Outcome.the-variants.{Counted}
 use Rattle.counttable.specs.declared.TableCount.{TableCount}
 use Rattle.events.specs.Listing.{list, ragged}
-use Rattle.events.specs.Printing.{refusedLine}
-use Rattle.report.specs.Report.{tallyLines, unlessRefused, countedLines, printed}
+use Rattle.events.specs.Printing.{refusedLine, unlessRefused}
+use Rattle.report.specs.Report.{tallyLines, countedLines, printed}
 
 -- ---- the definitions
 

@@ -2,9 +2,8 @@
 use Prim.Native.Nat.{ℕ, zero, suc}
 use mathlib.Core.Bool.{cond}
 use mathlib.Core.List.{List, [], _++_}
-use lib.Dec.{ltb, eqb}
+use lib.Dec.{ltb}
 use lib.ListN.{length, getD}
-use Rattle.plans.specs.Refusals.{Verdict}
 use Rattle.counter.specs.declared.Tally.{Tally}
 use Rattle.counter.specs.Counting.{Counting, countOf}
 use Rattle.gates.specs.Gate.{Region, regions}
@@ -14,7 +13,7 @@ use Rattle.tables.specs.Refusals.{tableVerdict}
 use Rattle.tables.specs.Compile.{planOf}
 use Rattle.events.specs.Parting.{tablePart}
 use Rattle.events.specs.Listing.{Events, list, ragged, eventsOf}
-use Rattle.events.specs.Printing.{countLine, takenLine, spoiltLine, refusedLine}
+use Rattle.events.specs.Printing.{countLine, takenLine, spoiltLine, refusedLine, unlessRefused}
 
 -- ---- counts
 
@@ -32,10 +31,6 @@ unfoldable pub tallyLines : List Region → Tally → List ℕ
 tallyLines rs t = (regionLines rs (t .counts) (length rs) ++ takenLine (t .taken)) ++ spoiltLine (t .spoilt)
 
 -- ---- refusals
-
--- what is printed unless there is a refusal: then its number and place
-abbrev pub unlessRefused : Verdict → List ℕ → List ℕ
-unlessRefused v lines = cond (eqb (v .number) 0) lines (refusedLine (v .number) (v .place))
 
 -- what is printed of a count
 abbrev pub countedLines : List Region → Counting → List ℕ

@@ -26,14 +26,14 @@ use Rattle.counter.specs.Counting.{counting, countOf}
 use Rattle.events.specs.Parting.{tablePart}
 use Rattle.events.specs.Listing.{Events, list, ragged, eventsOf}
 use Rattle.events.specs.Inner.Answers.{partedOf, listed, answerOf}
-use Rattle.events.specs.Printing.{refusedLine}
+use Rattle.events.specs.Printing.{refusedLine, unlessRefused}
 use Rattle.events.specs.declared.parting.Parted.{Parted}
 use Rattle.events.specs.declared.listing.Answer.{Answer}
 use Rattle.events.specs.declared.listing.Answer.the-variants.{Values, Short}
 use Rattle.events.proofs.EventTheorems.{values-few}
 use Rattle.events.proofs.CountedLaws.{count-clamped}
 use Rattle.runreport.specs.PlanReading.{unreadLine, wordsOf}
-use Rattle.runreport.specs.Running.{numberedTally, orRefused, unreadText, countText, eventsText, ranText, runReportOf}
+use Rattle.runreport.specs.Running.{numberedTally, unreadText, countText, eventsText, ranText, runReportOf}
 use Rattle.runreport.specs.Inner.Answers.{valuesRead, answerText}
 
 -- what was written over the beginning of a list that has room for it
@@ -48,12 +48,12 @@ refusal-some (Malformed place) = refl
 refusal-some (RaggedList length) = refl
 refusal-some (Spoilt place) = refl
 
-or-refused : (v : Verdict) (lines : List ℕ) → eqb (v .number) 0 ≡ false → orRefused v lines ≡ refusedLine (v .number) (v .place)
+or-refused : (v : Verdict) (lines : List ℕ) → eqb (v .number) 0 ≡ false → unlessRefused v lines ≡ refusedLine (v .number) (v .place)
 or-refused v lines h = rw h
 
 -- a check or a count that is refused
 module _ (c : Checked) (r : Refusal) (q : c ≡ Refused r) {n k : ℕ} (f : n ≡ refusal r .number) (g : k ≡ refusal r .place) where
-  pub refused-text : (lines : List ℕ) → orRefused (verdict c) lines ≡ refusedLine n k
+  pub refused-text : (lines : List ℕ) → unlessRefused (verdict c) lines ≡ refusedLine n k
   refused-text lines = rw (q, f, g) (or-refused (refusal r) lines (refusal-some r))
 
 -- ---- counting

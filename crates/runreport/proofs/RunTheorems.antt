@@ -17,15 +17,14 @@ use Rattle.text.specs.Output.{decimal}
 use Rattle.text.proofs.TestLaws.{passed-or-failed}
 use Rattle.text.proofs.OutputLaws.{decimal-length}
 use Rattle.plans.specs.Refusals.{Verdict}
-use Rattle.plans.specs.Form.{stepCount, checkOf}
+use Rattle.plans.specs.Form.{stepCount, checkOf, width}
 use Rattle.counter.specs.declared.Tally.{Tally}
 use Rattle.counter.specs.Counting.{countOf}
 use Rattle.events.specs.Parting.{tablePart}
 use Rattle.events.specs.Listing.{Events, list, ragged, eventsOf}
-use Rattle.events.specs.Printing.{takenLine, spoiltLine, refusedLine}
-use Rattle.plans.specs.Form.{width}
+use Rattle.events.specs.Printing.{takenLine, spoiltLine, refusedLine, unlessRefused}
 use Rattle.runreport.specs.PlanReading.{fitsWord, isWord, wordOf, isWordLine, wordLines, unreadLine, lineWords, wordsOf}
-use Rattle.runreport.specs.Running.{numberLine, numberLines, numberedTally, orRefused, unreadText, eventsText, ranText, runReportOf}
+use Rattle.runreport.specs.Running.{numberLine, numberLines, numberedTally, unreadText, eventsText, ranText, runReportOf}
 use Rattle.runreport.proofs.PrintLaws.{count-length}
 use Rattle.runreport.proofs.RunLaws.{count-most, accepted-passed}
 
@@ -49,10 +48,10 @@ unfolding numberedTally takenLine spoiltLine
 tally-length k t h =
     simp length-append (omega (arith, lines-length (t .counts) k, count-length (bytes "taken") (t .taken), count-length (bytes "spoilt") (t .spoilt)))
 
-or-length : (v : Verdict) (lines : List ℕ) → (v .number ≡ 0 → length lines ≤ 4096) → length (orRefused v lines) ≤ 4096
+or-length : (v : Verdict) (lines : List ℕ) → (v .number ≡ 0 → length lines ≤ 4096) → length (unlessRefused v lines) ≤ 4096
 or-length v lines h = go (passed-or-failed (eqb (v .number) 0))
   where
-    go : (eqb (v .number) 0 ≡ true) ⊎ (eqb (v .number) 0 ≡ false) → length (orRefused v lines) ≤ 4096
+    go : (eqb (v .number) 0 ≡ true) ⊎ (eqb (v .number) 0 ≡ false) → length (unlessRefused v lines) ≤ 4096
     go (inl e) = rw e (h (eqb-true (v .number) 0 e))
     go (inr e) = rw e (omega (arith, refused-length (v .number) (v .place)))
 

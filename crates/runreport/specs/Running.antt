@@ -2,18 +2,17 @@
 use Prim.Native.Nat.{ℕ, zero, suc}
 use mathlib.Core.Bool.{cond}
 use mathlib.Core.List.{List, [], _++_}
-use lib.Dec.{ltb, eqb}
+use lib.Dec.{ltb}
 use lib.IntN.{ℤ}
 use lib.ListN.{length, getD}
 use Rattle.text.specs.Bytes.{bytes}
 use Rattle.text.specs.Output.{decimal}
-use Rattle.plans.specs.Refusals.{Verdict}
 use Rattle.plans.specs.Form.{width, stepCount, checkOf}
 use Rattle.counter.specs.declared.Tally.{Tally}
 use Rattle.counter.specs.Counting.{Counting, countOf}
 use Rattle.events.specs.Parting.{tablePart}
 use Rattle.events.specs.Listing.{Events, list, ragged, eventsOf}
-use Rattle.events.specs.Printing.{countLine, takenLine, spoiltLine, refusedLine}
+use Rattle.events.specs.Printing.{countLine, takenLine, spoiltLine, refusedLine, unlessRefused}
 use Rattle.runreport.specs.PlanReading.{unreadLine, wordsOf}
 
 -- ---- counts
@@ -33,10 +32,6 @@ numberedTally k t = (numberLines (t .counts) k ++ takenLine (t .taken)) ++ spoil
 
 -- ---- refusals
 
--- what is printed unless there is a refusal: then its number and place
-abbrev pub orRefused : Verdict → List ℕ → List ℕ
-orRefused v lines = cond (eqb (v .number) 0) lines (refusedLine (v .number) (v .place))
-
 -- `unread`, tab, line, LF
 unfoldable pub unreadText : ℕ → List ℕ
 unreadText line = countLine (bytes "unread") line
@@ -45,7 +40,7 @@ unreadText line = countLine (bytes "unread") line
 
 -- what is printed of a count by a plan of k steps
 abbrev pub countText : ℕ → Counting → List ℕ
-countText k c = orRefused (c .verdict) (numberedTally k (c .tally))
+countText k c = unlessRefused (c .verdict) (numberedTally k (c .tally))
 
 -- by a plan that passes: a ragged line is 23
 abbrev pub eventsText : List ℤ → Events → List ℕ
@@ -54,7 +49,7 @@ eventsText p (list values) = countText (stepCount p) (countOf p values)
 
 -- the plan's refusals, 21 and 22, come before 23 of its events
 unfoldable pub ranText : List ℤ → Events → List ℕ
-ranText p events = orRefused (checkOf p) (eventsText p events)
+ranText p events = unlessRefused (checkOf p) (eventsText p events)
 
 -- of a whole input: what stands before the line `events` is the plan's text; a text that cannot be read comes before all refusals
 unfoldable pub runReportOf : List ℕ → List ℕ

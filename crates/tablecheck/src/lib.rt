@@ -2,7 +2,7 @@
 ghost use mathlib.Core.Path.{_≡_};
 ghost use Prim.Native.Nat.{_≤_};
 ghost use Rattle.plans.specs.Refusals.{Verdict};
-ghost use Rattle.gates.specs.LineRefusals.{lineNumber};
+ghost use Rattle.gates.specs.LineRefusals.{lineRefusalNumber};
 ghost use Rattle.tablecheck.specs.Inner.TextVerdict.{answered, linesVerdict, textVerdict};
 
 mod names;
@@ -33,7 +33,7 @@ pub enum Answer {
 // The refusal with a number.
 fn refusal_of(number: u8) -> LineRefusal
     requires { ⌜ (4 ≤ number) × (number ≤ 12) ⌝ }
-    ensures { λ r. ⌜ lineNumber r ≡ number ⌝ }
+    ensures { λ r. ⌜ lineRefusalNumber r ≡ number ⌝ }
 {
     match number {
         4 => LineRefusal::UnknownKind,

@@ -6,7 +6,7 @@ use lib.Dec.{ltb}
 use lib.ListN.{length}
 use Rattle.plans.specs.Refusals.{Verdict, refused}
 use Rattle.text.specs.Lines.{endsInLF}
-use Rattle.gates.specs.LineRefusals.{lineNumber}
+use Rattle.gates.specs.LineRefusals.{lineRefusalNumber}
 use Rattle.gates.specs.Gate.{Gate}
 use Rattle.tables.specs.Head.{dimensions, headGood, gateLines, gates}
 use Rattle.tables.specs.Refusals.{unlessLine, refusalAt, lineGood, always, uncrowded, unrepeated, living, uncircled}
@@ -18,7 +18,7 @@ abbrev pub answered : Answer → Verdict → Verdict
 answered Long v = refused 1 0
 answered Unended v = refused 2 0
 answered BadHead v = refused 3 1
-answered (BadLine refusal line) v = refused (lineNumber refusal) line
+answered (BadLine refusal line) v = refused (lineRefusalNumber refusal) line
 answered (Crowded line) v = refused 13 line
 answered (Repeated line) v = refused 14 line
 answered (Dead line) v = refused 15 line
