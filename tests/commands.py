@@ -240,9 +240,9 @@ def installing(tests, c_program, c_output):
         tests.same('the program of docs/FIRMWARE.md with what is installed: compiles', (0, b''), (status, told))
         tests.same('the program of docs/FIRMWARE.md with what is installed', c_output, run([built])[1])
         staged = os.path.join(folder, 'staged')
-        status, _, _ = run(['tools/install', '/opt/counter'], env=dict(os.environ, DESTDIR=staged))
+        status, _, _ = run(['tools/install', '/usr/local'], env=dict(os.environ, DESTDIR=staged))
         tests.same('tools/install with DESTDIR', (0, read('examples/worked.out')),
-                   (status, run([os.path.join(staged, 'opt/counter/bin/gatecount'), WORKED])[1]))
+                   (status, run([os.path.join(staged, 'usr/local/bin/gatecount'), WORKED])[1]))
 
 
 def check(tests, c_program, c_output):
