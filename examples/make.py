@@ -15,7 +15,9 @@ import sys
 HERE = os.path.dirname(os.path.abspath(__file__))
 SCALE = 65535
 
-# FSC, SSC, RED, ORANGE: the middle and the spread of each, then how far a bigger cell moves all four.
+DIMENSIONS = ('FSC', 'SSC', 'RED', 'ORANGE')
+
+# The middle and the spread in each dimension, then how far a bigger cell moves all four.
 CLUSTERS = {
     'debris': ((2500, 2600, 2200, 1500), (900, 900, 900, 700), 400),
     'prochlorococcus': ((8500, 6500, 14500, 2200), (900, 900, 1300, 600), 900),
@@ -52,7 +54,14 @@ def table(*lines):
     return [line.split() for line in lines]
 
 
-def quadrants(rng):
+def columns(lines):
+    """Where a cell has the dimensions of the table."""
+    return [DIMENSIONS.index(name) for name in lines[0][1:]]
+
+
+# Each gives its table, the number of cells of each cluster, and events that are listed by hand.
+
+def quadrants():
     lines = table(
         'dims FSC SSC RED ORANGE',
         'quad Pigments Cells 2 RED 1 30000 ORANGE 1 16000'
@@ -64,10 +73,10 @@ def quadrants(rng):
     numbers = {'debris': 60, 'prochlorococcus': 120, 'synechococcus': 100, 'picoeukaryotes': 50, 'cryptophytes': 20}
     # On a divider the event is on the upper side, one below it on the lower.
     edge = [[8000, 7000, 30000, 16000], [8000, 7000, 29999, 16000], [8000, 7000, 30000, 15999]]
-    return lines, sample(rng, numbers) + edge
+    return lines, numbers, edge
 
 
-def polygon(rng):
+def polygon():
     lines = table(
         'dims FSC SSC RED ORANGE',
         'poly Syn Cells RED ORANGE 17500 25000 22000 23500 27000 28500 27000 35000 21000 35500 17500 31000',
@@ -79,10 +88,10 @@ def polygon(rng):
     # A vertex, a point of an edge and one beside it; then a vertex again, outside the parent.
     edge = [[12000, 10000, 22000, 23500], [12000, 10000, 27000, 30000], [12000, 10000, 27001, 30000],
             [4499, 3000, 22000, 23500]]
-    return lines, sample(rng, numbers) + edge
+    return lines, numbers, edge
 
 
-def ellipses(rng):
+def ellipses():
     lines = table(
         'dims FSC RED',
         'ellip Pro - FSC RED 8500 14500 1620000 810000 2500000 9',
@@ -91,11 +100,10 @@ def ellipses(rng):
         'ellip Core PicoEuk FSC RED 25000 39500 7730000 4840000 8080000 1',
     )
     numbers = {'debris': 40, 'prochlorococcus': 150, 'synechococcus': 110, 'picoeukaryotes': 90}
-    events = [[fsc, red] for fsc, _, red, _ in sample(rng, numbers)]
-    return lines, events + [[25000, 39500]]
+    return lines, numbers, [[25000, 39500]]
 
 
-def boolean(rng):
+def boolean():
     lines = table(
         'dims FSC SSC RED ORANGE',
         'and Syn Phyto OrangeHigh !Large',
@@ -112,15 +120,17 @@ def boolean(rng):
     )
     numbers = {'debris': 50, 'prochlorococcus': 80, 'synechococcus': 80, 'picoeukaryotes': 40, 'cryptophytes': 25,
                'beads': 60}
-    return lines, sample(rng, numbers)
+    return lines, numbers, []
 
 
 MADE = {'quadrants': quadrants, 'polygon': polygon, 'ellipses': ellipses, 'boolean': boolean}
 
 
 def text(name):
-    lines, events = MADE[name](random.Random('gate counter: ' + name))
-    rows = lines + [['events']] + [[str(value) for value in event] for event in events]
+    lines, numbers, edge = MADE[name]()
+    cells = sample(random.Random('gate counter: ' + name), numbers)
+    events = [[values[column] for column in columns(lines)] for values in cells]
+    rows = lines + [['events']] + [[str(value) for value in event] for event in events + edge]
     return ''.join('\t'.join(row) + '\n' for row in rows).encode()
 
 
