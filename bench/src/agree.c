@@ -11,7 +11,7 @@
 #include <stdlib.h>
 #include <string.h>
 
-enum { MAX_LIBRARIES = 8, MAX_EVENTS = 40, MAX_N = 8 };
+enum { MAX_LIBRARIES = 8, MAX_EVENTS = 200, MAX_N = 8 };
 
 /* Stands in the word after `out`, which nobody may write. */
 #define GUARD 0xA5A5A5A5A5A5A5A5u
