@@ -1,4 +1,5 @@
 -- Definitions that only inner contracts and proofs cite.
 pub mod Steps
 pub mod Ranges
+pub mod Runs
 pub mod Raising
