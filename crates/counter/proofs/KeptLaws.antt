@@ -1,21 +1,19 @@
 -- Values that are kept otherwise where they are off the scale: counting what is kept is counting the values.
-use mathlib.Core.Path.{_≡_, refl, sym, ap, _∙_}
+use mathlib.Core.Path.{_≡_, refl, ap, _∙_}
 use mathlib.Core.Bool.{Bool, true, false, not, cond}
-use mathlib.Core.Logic.{_⊎_, inl, inr}
 use mathlib.Core.List.{List, [], _∷_, map}
 use Prim.Native.Nat.{ℕ, zero, suc, _<_, _*_, _/_}
 use native.Mathlib.Omega.{arith}
-use lib.IntN.{ℤ, negsuc}
-use lib.ListN.{length, getD, take, drop, length-map}
+use lib.IntN.{ℤ}
+use lib.ListN.{length, take, drop, length-map}
 use Rattle.plans.specs.Indices.{all, howMany}
 use Rattle.plans.specs.Words.{word, onScale, part}
 use Rattle.plans.specs.Bits.{hasBit}
-use Rattle.plans.specs.Form.{width, checkOf}
+use Rattle.plans.specs.Form.{width}
 use Rattle.plans.proofs.IndexLaws.{all-at, howMany-same}
 use Rattle.counter.specs.Members.{bitsOf}
 use Rattle.counter.specs.Judging.{valueGood, taken, members}
-use Rattle.counter.specs.Counting.{eventAt, takenAt, spoiltAt, memberAt, listFrom, inRegion, tallyOf, noTally, Counting, countPassed, countOf}
-use Rattle.counter.specs.declared.Tally.{Tally}
+use Rattle.counter.specs.Counting.{eventAt, takenAt, spoiltAt, memberAt, inRegion, tallyOf, countPassed, countOf}
 use Rattle.counter.proofs.TableLaws.{table-ext}
 
 -- parts of a list

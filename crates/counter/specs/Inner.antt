@@ -3,3 +3,4 @@ pub mod Steps
 pub mod Ranges
 pub mod Runs
 pub mod Raising
+pub mod Groups
