@@ -1011,6 +1011,15 @@ def case_small(rng):
     return accepted('small', small_table(rng), rng.choice((0, 1, 4, 8, 12, 20)), orders=rng.random() < 0.2)
 
 
+def many(rng):
+    """Somewhat more or less than a few times 64: a counter may take events in groups of that many."""
+    return 64 * rng.choice((1, 1, 2, 3)) + rng.choice((-2, -1, 0, 1, 2))
+
+
+def case_many_events(rng):
+    return accepted('many events', rng.choice((small_table, referring_table))(rng), many(rng))
+
+
 def case_referring(rng):
     return accepted('references', referring_table(rng), rng.choice((6, 10, 20)), orders=rng.random() < 0.25)
 
@@ -1214,7 +1223,7 @@ FAMILIES = ((140, case_small), (90, case_referring), (110, case_outlines), (60, 
             (50, case_many_faults), (55, case_rough_table), (30, case_rough_input),
             (10, case_crowded), (3, case_crowded_then_bad), (30, case_twin), (30, case_dead), (40, case_circle),
             (7, case_plan_size), (3, case_polygons), (4, case_table_size), (4, case_long_number),
-            (5, case_input_size), (3, case_long_table_part))
+            (5, case_input_size), (3, case_long_table_part), (40, case_many_events))
 
 # The limits of size and one of each refusal stand at the beginning of every run, so that
 # none is left to chance.
@@ -1531,6 +1540,15 @@ def request(seed, number):
     if style < 0.58:
         plan = Plan(rng)
         return 'damaged, judged', ('judge', damage_plan(rng, plan), event_for(rng, plan))
+    if style < 0.60:
+        plan = Plan(rng, 64 if rng.random() < 0.1 else None)
+        values = []
+        for _ in range(many(rng)):
+            event = plan.event()
+            if rng.random() < 0.05:
+                event[rng.randrange(len(event))] = rng.choice((65536, -65537, 2147483647, -2147483648))
+            values += event
+        return 'counted, many', ('count', plan.words, values)
     if style < 0.64:
         plan = Plan(rng)
         values = []
