@@ -13,30 +13,30 @@ use lib.Signed.{leZ, ltZ}
 use lib.ListN.{length, getD, take, drop, set, length-set, replicate, getD-replicate, length-replicate}
 use lib.Seq.{getD-set-same, getD-set-other, getD-take, getD-drop, take-take, drop-drop}
 use lib.Bits.{bitAnd, bitOr}
-use lib.Dec.{eqb, leb, ltb}
+use lib.Dec.{leb, ltb}
 use borrow.Author.Tests.{eq-eqb, ne-eqb, lt-ltb, le-ltb, lt-leb, le-leb, ltb-true}
 use Rattle.plans.specs.Indices.{all, any}
 use Rattle.plans.specs.Words.{word, number, onScale, part}
 use Rattle.plans.specs.Bits.{hasBit, withBit}
 use Rattle.plans.specs.Refusals.{passed}
 use Rattle.plans.specs.Form.{kindAt, regionAt, bodyAt, nextAt, width, stepCount, checkOf}
-use Rattle.plans.proofs.IndexLaws.{and-both, and-right-false, all-at, all-of, first-to}
+use Rattle.plans.proofs.IndexLaws.{and-both, and-right-false, all-at, all-of, all-same, any-same}
 use Rattle.plans.proofs.WordLaws.{part-whole, length-part}
+use Rattle.plans.proofs.BitLaws.{no-bit, has-or}
 use Rattle.counter.specs.Members.{valueIn, tripleIn, boxIn, operandIn, parentIn, stepIn, settled, bitsOf}
-use Rattle.counter.specs.Judging.{valueGood, taken, firstSpoilt, members}
+use Rattle.counter.specs.Judging.{valueGood, taken, members}
 use Rattle.counter.specs.Counting.{eventAt, takenAt, memberAt, tallyOf}
 use Rattle.counter.specs.declared.Tally.{Tally}
 use Rattle.counter.specs.Inner.Steps.{parentRegion, headAt, stepAt, Taken, Operands, Sound, AllSound}
-use Rattle.counter.specs.Inner.Groups.{First, SetOf, Those, Candidates, Agree, Kept, Sorted, inSet, firstOf, fromTo, tripleAt, triplesAt, operandAt, allAt, anyAt, parentAt, shapeAt, noBit, memberBy, memberIn}
+use Rattle.counter.specs.Inner.Groups.{First, SetOf, Those, Candidates, Agree, Matched, MemberSets, inSet, firstOf, fromTo, tripleAt, triplesAt, operandAt, allAt, anyAt, parentAt, shapeAt, unset, memberBy, memberIn}
 use Rattle.counter.specs.declared.steps.Head.{Head}
 use Rattle.counter.specs.declared.steps.Step.{Step}
 use Rattle.counter.specs.declared.steps.Step.the-variants.{Box}
 use Rattle.counter.proofs.SoundLaws.{on-scale, parent-is, decoded, kind-known}
-use Rattle.counter.proofs.JudgeLaws.{is-taken, is-spoilt}
 use Rattle.counter.proofs.StepLaws.{settled-done, bits-low}
 use Rattle.counter.proofs.TallyLaws.{event-inside, withTaken, withSpoilt, tally-taken, tally-spoilt}
 use Rattle.counter.proofs.SpanLaws.{span-range}
-use Rattle.counter.proofs.SetLaws.{has-and, has-or, has-none, rest-is, settle-same, settle-other}
+use Rattle.counter.proofs.SetLaws.{has-and, rest-is, settle-same, settle-other}
 
 -- ---- flags
 
@@ -94,7 +94,7 @@ taken-values event h = record { on-scale = λ d l. on-scale (word event d) (all-
 module _ (test : ℕ → Bool) where
   pub first-none : SetOf (firstOf test 0) 0
   unfolding firstOf
-  first-none = record { each = λ e h. has-none e ∙ rw (le-ltb e 0 (omega arith)) }
+  first-none = record { each = λ e h. no-bit e ∙ rw (le-ltb e 0 (omega arith)) }
 
   -- the next event, asked
   pub first-next : (e : ℕ) → e < 64 → {x : Bool} → x ≡ test e → {before after : ℕ} → SetOf (firstOf test e) before
@@ -129,19 +129,6 @@ module _ (test : ℕ → Bool) where
 
 module _ (n : ℕ) (group : List ℤ) where
   -- an event is taken where no value is found spoilt
-  module _ (e : ℕ) {event : List ℤ} (ev : event ≡ eventAt n group e) (long : length event ≡ n) {i : ℕ} (ei : i ≡ firstSpoilt event) where
-    not-past : i ≤ n
-    unfolding firstSpoilt
-    not-past = let l = first-to (valueGood event) 0 (length event) in omega arith
-
-    pub is-flag : eqb i n ≡ takenAt n group e
-    unfolding takenAt
-    is-flag = rw (← ev) (go (decLt i n))
-      where
-        go : Dec (i < n) → eqb i n ≡ taken event
-        go (yes l) = ne-eqb i n (λ q. omega arith) ∙ sym (is-spoilt event (omega arith))
-        go (no l) = let u = not-past in eq-eqb i n (omega arith) ∙ sym (is-taken event (omega arith))
-
   -- where all values of some events are on the scale, each of them is taken
   pub all-taken : (from to : ℕ) → {values : List ℤ} → values ≡ part group (from * n) (to * n - from * n) → to * n ≤ length group → taken values ≡ true
       → (e : ℕ) → from ≤ e → e < to → takenAt n group e ≡ true
@@ -177,7 +164,6 @@ module _ (n : ℕ) (group : List ℤ) where
     few = few;
     whole = long;
     below = λ e h t. ltb-true e g (both e h t .0);
-    inside = λ e h t. event-inside n e g (length group) (ltb-true e g (both e h t .0)) long;
     taken = λ e h t. taken-values (eventAt n group e) (both e h t .1);
   }
     where
@@ -201,13 +187,13 @@ pub record Asking (among : ℕ) (test : ℕ → Bool) (rest found : ℕ) : Type 
 
 module _ (among : ℕ) (test : ℕ → Bool) where
   pub asking-all : Asking among test among 0
-  asking-all = record { left = λ e h t. t; each = λ e h. rw (has-none e) }
+  asking-all = record { left = λ e h t. t; each = λ e h. rw (no-bit e) }
 
   pub asking-done : {rest found : ℕ} → Asking among test rest found → rest ≤ 0 → Those among test found
   asking-done {rest} {found} a h = record { each = λ e l. sym (or-false (hasBit found e)) ∙ (rw (gone e) at (a .each e l)) }
     where
       gone : (e : ℕ) → hasBit rest e ≡ false
-      gone e = let z : rest ≡ 0 = omega arith in rw z (has-none e)
+      gone e = let z : rest ≡ 0 = omega arith in rw z (no-bit e)
 
   -- the first of those that are left is asked, and is left no more
   module _ {rest found e : ℕ} (a : Asking among test rest found) (f : First 64 rest e) where
@@ -262,24 +248,12 @@ module _ (n : ℕ) (group body : List ℤ) where
 
   -- all triples are the box
   pub triples-all : {step : Step} {head : Head} → step ≡ Box head → {among found : ℕ} → Those among (triplesAt n group body (length body / 3)) found
-      → Those among (shapeAt step n group body noBit) found
+      → Those among (shapeAt step n group body unset) found
   unfolding triplesAt shapeAt boxIn
   triples-all e t = those-same (λ k h m. rw e) t
 
 -- ---- combinations
 
--- tests that agree below n have one answer over all, and over some
-all-same : (f g : ℕ → Bool) (n : ℕ) → ((i : ℕ) → i < n → f i ≡ g i) → all f n ≡ all g n
-unfolding all
-all-same f g zero h = refl
-all-same f g (suc n) h = rw (h n (omega arith), all-same f g n (λ i l. h i (omega arith)))
-
-any-same : (f g : ℕ → Bool) (n : ℕ) → ((i : ℕ) → i < n → f i ≡ g i) → any f n ≡ any g n
-unfolding any
-any-same f g zero h = refl
-any-same f g (suc n) h = rw (h n (omega arith), any-same f g n (λ i l. h i (omega arith)))
-
--- no operand asked, and one more: all of them, then some of them
 module _ (sets : List ℕ) (body : List ℤ) where
   pub all-none : (among : ℕ) → Those among (allAt sets body 0) among
   unfolding allAt all
@@ -295,7 +269,7 @@ module _ (sets : List ℕ) (body : List ℤ) where
 
   pub any-none : SetOf (anyAt sets body 0) 0
   unfolding anyAt any
-  any-none = record { each = λ e h. has-none e }
+  any-none = record { each = λ e h. no-bit e }
 
   pub any-next : (i : ℕ) {found operand : ℕ} → SetOf (anyAt sets body i) found → SetOf (operandAt sets body i) operand
       → SetOf (anyAt sets body (i + 1)) (bitOr found operand)
@@ -318,7 +292,7 @@ module _ (sets : List ℕ) (body : List ℤ) where
 
 -- ---- asking the step at a place
 
-module _ {p : List ℤ} {n at : ℕ} (s : Sound p n at) (group : List ℤ) {taken : ℕ} {sets : List ℕ} {bits : ℕ → ℕ} (k : Kept taken sets bits)
+module _ {p : List ℤ} {n at : ℕ} (s : Sound p n at) (group : List ℤ) {taken : ℕ} {sets : List ℕ} {bits : ℕ → ℕ} (k : Matched taken sets bits)
     {parent : ℕ} (ep : parent ≡ parentRegion (word p (at + 2))) {set : ℕ} (es : SetOf (parentAt sets taken parent) set) where
   -- the events to ask are those taken that are in the parent
   in-parent : (e : ℕ) → e < 64 → hasBit (bitAnd taken set) e ≡ (hasBit taken e && parentIn (bits e) (word p (at + 2)))
@@ -359,7 +333,6 @@ candidates-and {n} {group} {g} {taken} set c = record {
   few = c .few;
   whole = c .whole;
   below = λ e h t. c .below e h (first e t);
-  inside = λ e h t. c .inside e h (first e t);
   taken = λ e h t. c .taken e h (first e t);
 }
   where
@@ -368,7 +341,7 @@ candidates-and {n} {group} {g} {taken} set c = record {
 
 -- where no event is left, any test leaves none
 pub those-none : {among : ℕ} {f : ℕ → Bool} → among ≡ 0 → Those among f 0
-those-none {among} {f} z = record { each = λ e h. rw (z, has-none e) }
+those-none {among} {f} z = record { each = λ e h. rw (z, no-bit e) }
 
 -- ---- the sets after each step
 
@@ -377,17 +350,17 @@ pub record Settling (p : List ℤ) (n : ℕ) (group : List ℤ) (taken left at :
   pub bits : ℕ → ℕ
   pub sound : AllSound left p n at
   pub long : length sets ≡ 64
-  pub kept : Kept taken sets bits
+  pub matched : Matched taken sets bits
   pub rest : (e : ℕ) → e < 64 → bitsOf p (eventAt n group e) ≡ settled left p (eventAt n group e) (bits e) at
 
 module _ (p : List ℤ) (n : ℕ) (group : List ℤ) (taken : ℕ) where
   pub settling-start : AllSound (stepCount p) p n 2 → Settling p n group taken (stepCount p) 2 (replicate 64 0)
   unfolding bitsOf inSet
   settling-start s = record {
-    bits = noBit;
+    bits = unset;
     sound = s;
     long = length-replicate {A = ℕ} 64 0;
-    kept = record { each = λ e q h l. rw (getD-replicate {A = ℕ} 64 q 0 0 l, has-none e, has-none q) (sym (and-right-false (hasBit taken e))) };
+    matched = record { each = λ e q h l. rw (getD-replicate {A = ℕ} 64 q 0 0 l, no-bit e, no-bit q) (sym (and-right-false (hasBit taken e))) };
     rest = λ e h. refl;
   }
 
@@ -404,7 +377,7 @@ module _ (p : List ℤ) (n : ℕ) (group : List ℤ) (taken : ℕ) where
       bits = after;
       sound = later;
       long = length-set sets (regionAt p at) _ ∙ s .long;
-      kept = record { each = λ e q h l. by-case q (regionAt p at) (λ z. rw z (here e h)) (λ z. other e q h l z) };
+      matched = record { each = λ e q h l. by-case q (regionAt p at) (λ z. rw z (here e h)) (λ z. other e q h l z) };
       rest = λ e h. s .rest e h ∙ ap (λ (x : ℕ). settled x p (eventAt n group e) (s .bits e) at) (one-less);
     }
       where
@@ -421,7 +394,7 @@ module _ (p : List ℤ) (n : ℕ) (group : List ℤ) (taken : ℕ) where
         here e h =
             ap (λ (x : ℕ). hasBit x e) (getD-set-same sets region (bitOr (getD sets region 0) found) 0 (let l = s .long in omega arith))
             ∙ has-or (getD sets region 0) found e
-            ∙ ap₂ (λ (x y : Bool). x || y) (s .kept .each e region h low) (t .each e h)
+            ∙ ap₂ (λ (x y : Bool). x || y) (s .matched .each e region h low) (t .each e h)
             ∙ sym (and-or-distrib-left (hasBit taken e) (hasBit (s .bits e) region) (test e))
             ∙ ap (λ (x : Bool). hasBit taken e && x) (sym (settle-same (s .bits e) region low (test e)))
 
@@ -429,15 +402,15 @@ module _ (p : List ℤ) (n : ℕ) (group : List ℤ) (taken : ℕ) where
             → hasBit (getD (set sets region (bitOr (getD sets region 0) found)) q 0) e ≡ (hasBit taken e && hasBit (after e) q)
         other e q h l z =
             ap (λ (x : ℕ). hasBit x e) (getD-set-other sets region q (bitOr (getD sets region 0) found) 0 z)
-            ∙ s .kept .each e q h l
+            ∙ s .matched .each e q h l
             ∙ ap (λ (x : Bool). hasBit taken e && x) (sym (settle-other (s .bits e) region low (test e) q z))
 
-    pub settling-done : left ≤ 0 → Sorted p n group taken sets
+    pub settling-done : left ≤ 0 → MemberSets p n group taken sets
     unfolding memberIn inSet
     settling-done z = record {
       long = s .long;
       each = λ q l. record {
-        each = λ e h. s .kept .each e q h l
+        each = λ e h. s .matched .each e q h l
             ∙ ap (λ (b : ℕ). hasBit taken e && hasBit b q) (sym (s .rest e h ∙ settled-done left p (eventAt n group e) 0 (s .bits e) at z));
       };
     }
@@ -459,7 +432,7 @@ module _ (p events : List ℤ) {n : ℕ} (en : n ≡ width p) (j g : ℕ) {group
   unfolding firstOf takenAt
   taken-is = st .each e h ∙ rw (lt-ltb e g l, same-event)
 
-  member-is : {sets : List ℕ} → Sorted p n group taken sets → hasBit taken e ≡ true → (r : ℕ) → r < 64 → memberAt p events r (j + e) ≡ inSet sets e r
+  member-is : {sets : List ℕ} → MemberSets p n group taken sets → hasBit taken e ≡ true → (r : ℕ) → r < 64 → memberAt p events r (j + e) ≡ inSet sets e r
   unfolding memberAt members memberIn inSet takenAt
   member-is s f r k = rw (sym taken-is ∙ f, ← same-event) (sym (s .each r k .each e h ∙ rw f))
 
@@ -470,13 +443,14 @@ module _ (p events : List ℤ) {n : ℕ} (en : n ≡ width p) (j g : ℕ) {group
     pub one-spoilt : hasBit taken e ≡ false → u ≡ withSpoilt t → u ≡ tallyOf p events (j + (e + 1))
     one-spoilt f eu = eu ∙ ap withSpoilt et ∙ sym (tally-spoilt p events (j + e) (sym taken-is ∙ f)) ∙ ap (λ (k : ℕ). tallyOf p events k) next
 
-    pub one-taken : {sets : List ℕ} → Sorted p n group taken sets → hasBit taken e ≡ true → u ≡ withTaken t (inSet sets e) → u ≡ tallyOf p events (j + (e + 1))
+    pub one-taken : {sets : List ℕ} → MemberSets p n group taken sets → hasBit taken e ≡ true → u ≡ withTaken t (inSet sets e)
+        → u ≡ tallyOf p events (j + (e + 1))
     one-taken {sets} s f eu =
         eu ∙ ap (λ (x : Tally). withTaken x (inSet sets e)) et
         ∙ sym (tally-taken p events (j + e) (sym taken-is ∙ f) (member-is s f)) ∙ ap (λ (k : ℕ). tallyOf p events k) next
 
 -- no event is in a set from the number of steps on
-pub sets-low : (p : List ℤ) (n : ℕ) (group : List ℤ) {taken : ℕ} {sets : List ℕ} → checkOf p ≡ passed → Sorted p n group taken sets
+pub sets-low : (p : List ℤ) (n : ℕ) (group : List ℤ) {taken : ℕ} {sets : List ℕ} → checkOf p ≡ passed → MemberSets p n group taken sets
     → (e : ℕ) → e < 64 → (r : ℕ) → stepCount p ≤ r → r < 64 → inSet sets e r ≡ false
 unfolding memberIn inSet hasBit
 sets-low p n group {taken} ok s e h r l k =

@@ -1,18 +1,18 @@
 -- Sets of events as bits: intersection, union, complement, a run of events, the first event, one event more.
 use mathlib.Core.Path.{_≡_, refl, sym, ap, _∙_}
 use mathlib.Core.Bool.{Bool, true, false, not, cond, _&&_, _||_, and-false, and-self, and-true, or-true, or-false}
-use Prim.Native.Nat.{ℕ, zero, suc, _+_, _-_, _*_, _/_, _%_, _^_, _<_, _≤_, min, max, compare·suc-suc}
+use Prim.Native.Nat.{ℕ, zero, suc, _+_, _-_, _*_, _/_, _%_, _^_, _<_, _≤_, min, compare·suc-suc}
 use native.Mathlib.Omega.{arith}
 use native.Mathlib.Decide.{decLt}
-use native.Mathlib.Nat.{div-eq-of-lt, lt-of-lt-of-le, zero-div, pow-suc}
-use lib.Bits.{bitAnd, bitOr, and-shr, and-step, or-shr, or-step}
+use native.Mathlib.Nat.{div-eq-of-lt, lt-of-lt-of-le, pow-suc}
+use lib.Bits.{bitAnd, and-shr, and-step}
 use lib.Count.{under, trailingZeros}
-use lib.Pow.{shr-shr, pow-pos, pow-mono, ones-lt, high-ones}
+use lib.Pow.{pow-pos, pow-mono, ones-lt, high-ones}
 use lib.Dec.{eqb, leb, ltb}
 use borrow.Author.Tests.{ne-eqb, lt-ltb, le-ltb, lt-leb, le-leb}
 use Rattle.plans.specs.Bits.{hasBit, withBit}
 use Rattle.counter.specs.Inner.Groups.{First}
-use Rattle.plans.proofs.BitLaws.{has-with-same, has-with-other}
+use Rattle.plans.proofs.BitLaws.{has-with-same, has-with-other, no-bit, has-low, has-half}
 
 -- ---- single bits
 
@@ -24,47 +24,18 @@ min-digit (suc zero) (suc zero) h k = refl
 min-digit (suc zero) (suc (suc y)) h k = absurd (omega arith)
 min-digit (suc (suc x)) y h k = absurd (omega arith)
 
-max-digit : (x y : ℕ) → x < 2 → y < 2 → eqb (max x y) 1 ≡ (eqb x 1 || eqb y 1)
-max-digit zero zero h k = refl
-max-digit zero (suc zero) h k = refl
-max-digit (suc zero) zero h k = refl
-max-digit (suc zero) (suc zero) h k = refl
-max-digit zero (suc (suc y)) h k = absurd (omega arith)
-max-digit (suc zero) (suc (suc y)) h k = absurd (omega arith)
-max-digit (suc (suc x)) y h k = absurd (omega arith)
-
--- the lowest digit of an intersection, and of a union
 and-odd : (a b : ℕ) → bitAnd a b % 2 ≡ min (a % 2) (b % 2)
 and-odd a b = rw (and-step a b) (let m = min (a % 2) (b % 2) in omega arith)
 
-or-odd : (a b : ℕ) → bitOr a b % 2 ≡ max (a % 2) (b % 2)
-or-odd a b = rw (or-step a b) (let m = max (a % 2) (b % 2) in omega arith)
-
--- event e of an intersection, of a union, and of no event
 pub has-and : (a b e : ℕ) → hasBit (bitAnd a b) e ≡ (hasBit a e && hasBit b e)
 unfolding hasBit
 has-and a b e =
     rw (and-shr a b e, and-odd (a / 2 ^ e) (b / 2 ^ e))
     (min-digit (a / 2 ^ e % 2) (b / 2 ^ e % 2) (let x = a / 2 ^ e in omega arith) (let x = b / 2 ^ e in omega arith))
 
-pub has-or : (a b e : ℕ) → hasBit (bitOr a b) e ≡ (hasBit a e || hasBit b e)
-unfolding hasBit
-has-or a b e =
-    rw (or-shr a b e, or-odd (a / 2 ^ e) (b / 2 ^ e))
-    (max-digit (a / 2 ^ e % 2) (b / 2 ^ e % 2) (let x = a / 2 ^ e in omega arith) (let x = b / 2 ^ e in omega arith))
-
-pub has-none : (e : ℕ) → hasBit 0 e ≡ false
-unfolding hasBit
-has-none e = rw (zero-div (2 ^ e))
-
 -- ---- the complement
 
 -- event e + 1 of a set is event e of its half
-has-half : (a e : ℕ) → hasBit a (suc e) ≡ hasBit (a / 2) e
-unfolding hasBit
-has-half a e = let q : 1 + e ≡ suc e = omega arith in rw (shr-shr a 1 e, q)
-
--- the lowest digit of a complement
 flip-odd : (x : ℕ) → eqb ((1 - x % 2) % 2) 1 ≡ not (eqb (x % 2) 1)
 flip-odd x = go (x % 2) (omega arith)
   where
@@ -103,7 +74,7 @@ has-below k e = go (decLt e k)
     go : Dec (e < k) → hasBit (2 ^ k - 1) e ≡ ltb e k
     go (yes l) =
         let q : 2 ^ k - 1 ≡ 2 ^ k - 1 - 0 = omega arith in
-        ap (λ (x : ℕ). hasBit x e) q ∙ has-complement k 0 e (pow-pos k) l ∙ ap not (has-none e) ∙ sym (lt-ltb e k l)
+        ap (λ (x : ℕ). hasBit x e) q ∙ has-complement k 0 e (pow-pos k) l ∙ ap not (no-bit e) ∙ sym (lt-ltb e k l)
     go (no l) = rw (div-eq-of-lt (lt-of-lt-of-le (ones-lt k) (pow-mono {i = k} {j = e} (omega arith))), le-ltb e k (omega arith))
 
 -- those from one on, up to another
@@ -134,10 +105,6 @@ has-from-to from to h e = go (decLt e to) (decLt e from)
         ap (λ (x : ℕ). hasBit x e) run ∙ rw (div-eq-of-lt u, le-ltb e to (omega arith)) (sym (and-false (leb from e)))
 
 -- ---- the first event
-
-has-low : (a : ℕ) → hasBit a zero ≡ eqb (a % 2) 1
-unfolding hasBit
-has-low a = let q : a / 1 % 2 ≡ a % 2 = omega arith in rw q
 
 -- the first event of an odd set is 0, that of an even set is one after that of its half
 first-odd : (k set : ℕ) → set % 2 ≡ 1 → First (suc k) set zero

@@ -7,11 +7,10 @@ ghost use Rattle.plans.specs.Refusals.{passed};
 ghost use Rattle.plans.specs.Form.{width, checkOf};
 ghost use Rattle.counter.specs.Judging.{taken};
 ghost use Rattle.counter.specs.Counting.{takenAt, tallyOf};
-ghost use Rattle.counter.specs.Inner.Groups.{SetOf, firstOf, fromTo, Candidates, Sorted, inSet};
+ghost use Rattle.counter.specs.Inner.Groups.{SetOf, firstOf, fromTo, Candidates, MemberSets, inSet};
 ghost use Rattle.counter.specs.Inner.Raising.{bumped};
 use crate::Tally;
 use crate::reading::bit_in;
-use crate::reading::first_spoilt;
 use crate::reading::least;
 use crate::reading::number_in;
 use crate::reading::settle;
@@ -48,8 +47,8 @@ fn taken_each(group: &[i32], n: usize, taken: u64, from: usize, to: usize) -> u6
     let mut e = from;
     while e < to {
         let start = e * n;
-        let i = first_spoilt(&group[start..start + n]);
-        all = settle(all, e, i == n);
+        let whole = on_scale(&group[start..start + n]);
+        all = settle(all, e, whole);
         e += 1;
     }
     all
@@ -86,7 +85,7 @@ fn taken_of(group: &[i32], n: usize, g: usize) -> u64
 // The set of members of each region.
 fn sets_of(plan: &[i32], group: &[i32], n: usize, g: usize, taken: u64) -> [u64; 64]
     requires { ⌜ (checkOf (now plan) ≡ passed) × (n ≡ width (now plan)) × Candidates n (now group) g taken ⌝ }
-    ensures { λ r. ⌜ Sorted (now (plan .entry)) n (now (group .entry)) taken r ⌝ }
+    ensures { λ r. ⌜ MemberSets (now (plan .entry)) n (now (group .entry)) taken r ⌝ }
 {
     let mut sets = [0u64; 64];
     let mut left = number_in(plan, 1);
@@ -94,6 +93,7 @@ fn sets_of(plan: &[i32], group: &[i32], n: usize, g: usize, taken: u64) -> [u64;
     while 0 < left {
         let found = step_of(plan, group, n, g, taken, &sets, at);
         let r = number_in(plan, at + 1);
+        // No step before has set region r, so old is 0; the union spares the proof of it.
         let old = sets[r];
         sets[r] = old | found;
         at = at + 4 + number_in(plan, at + 3);

@@ -8,7 +8,7 @@ ghost use lib.ListN.{length};
 ghost use Rattle.counter.specs.Inner.Steps.{BoxBody, Operands, Shaped, Sound};
 ghost use Rattle.counter.specs.declared.steps.Head.{Head};
 ghost use Rattle.counter.specs.declared.steps.Step.the-variants.{Box};
-ghost use Rattle.counter.specs.Inner.Groups.{First, SetOf, Those, Candidates, firstOf, tripleAt, triplesAt, Agree, Kept, outside, operandAt, allAt, anyAt, parentAt, shapeAt, noBit, memberBy};
+ghost use Rattle.counter.specs.Inner.Groups.{First, SetOf, Those, Candidates, firstOf, tripleAt, triplesAt, Agree, Matched, outside, operandAt, allAt, anyAt, parentAt, shapeAt, unset, memberBy};
 use crate::reading::number_in;
 use crate::reading::settle;
 use crate::shapes::in_shape;
@@ -57,7 +57,7 @@ fn all_of(sets: &[u64; 64], body: &[i32], among: u64) -> u64
     rest
 }
 
-// The events that are in some operand.
+// The events that are in some operand; for `!` also those that are not taken.
 fn any_of(sets: &[u64; 64], body: &[i32]) -> u64
     requires { ⌜ (length (now sets) ≡ 64) × Operands (now body) ⌝ }
     ensures { λ r. ⌜ SetOf (anyAt (now (sets .entry)) (now (body .entry)) (length (now (body .entry)))) r ⌝ }
@@ -71,10 +71,10 @@ fn any_of(sets: &[u64; 64], body: &[i32]) -> u64
     found
 }
 
-// The events of a set that are in the shape of a step, asked one by one.
+// The events of a set that are in the shape of a step, asked one by one. A combination is asked with no bit set.
 fn each_of(group: &[i32], n: usize, g: usize, among: u64, body: &[i32], step: Step) -> u64
     requires { ⌜ Candidates n (now group) g among × (n ≤ 8) × Shaped step n (now body) ⌝ }
-    ensures { λ r. ⌜ Those among (shapeAt step n (now (group .entry)) (now (body .entry)) noBit) r ⌝ }
+    ensures { λ r. ⌜ Those among (shapeAt step n (now (group .entry)) (now (body .entry)) unset) r ⌝ }
 {
     let mut rest = among;
     let mut found = 0u64;
@@ -141,8 +141,8 @@ fn triples_of(group: &[i32], n: usize, g: usize, among: u64, body: &[i32]) -> u6
 // The events of a set that are in the box of a step: few are asked one by one, of many all are asked each triple.
 // Where few become many is a matter of measuring, not of proof: both ways keep one contract.
 fn box_of(group: &[i32], n: usize, g: usize, among: u64, body: &[i32], step: Step) -> u64
-    requires { ⌜ Candidates n (now group) g among × (n ≤ 8) × Shaped step n (now body) × BoxBody n (now body) ⌝ }
-    ensures { λ r. ⌜ ((head : Head) → step ≡ Box head → Those among (shapeAt step n (now (group .entry)) (now (body .entry)) noBit) r) ⌝ }
+    requires { ⌜ Candidates n (now group) g among × (n ≤ 8) × BoxBody n (now body) × ((head : Head) × (step ≡ Box head)) ⌝ }
+    ensures { λ r. ⌜ Those among (shapeAt step n (now (group .entry)) (now (body .entry)) unset) r ⌝ }
 {
     if u64::count_ones(among) < 40 {
         return each_of(group, n, g, among, body, step);
@@ -192,7 +192,7 @@ pub fn step_of(
     at: usize,
 ) -> u64
     requires { ⌜ Candidates n (now group) g taken × Sound (now plan) n at × (length (now sets) ≡ 64) ⌝ }
-    ensures { λ r. ⌜ ((bits : ℕ → ℕ) → Kept taken (now (sets .entry)) bits → Those taken (memberBy (now (plan .entry)) n (now (group .entry)) at bits) r) ⌝ }
+    ensures { λ r. ⌜ ((bits : ℕ → ℕ) → Matched taken (now (sets .entry)) bits → Those taken (memberBy (now (plan .entry)) n (now (group .entry)) at bits) r) ⌝ }
 {
     let among = taken & parent_set(sets, taken, parent_of(plan[at + 2]));
     if among == 0 {

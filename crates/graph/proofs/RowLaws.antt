@@ -3,14 +3,13 @@ use mathlib.Core.Path.{_≡_, refl, sym, ap, _∙_}
 use mathlib.Core.Bool.{Bool, true, false, not, cond, _&&_, _||_}
 use mathlib.Core.Logic.{_⊎_, inl, inr}
 use mathlib.Core.List.{List, append-nil}
-use Prim.Native.Nat.{ℕ, zero, suc, _+_, _/_, _%_, _^_, _<_, _≤_, min, max}
+use Prim.Native.Nat.{ℕ, zero, suc, _+_, _/_, _%_, _<_, _≤_, min, max}
 use native.Mathlib.Omega.{arith}
 use native.Mathlib.Numerals.{add-one}
-use native.Mathlib.Nat.{div-add-mod', div-one}
+use native.Mathlib.Nat.{div-add-mod'}
 use native.Mathlib.Decide.{decLt}
 use lib.Arith.{bin-ind}
 use lib.Bits.{bitOr, or-step}
-use lib.Pow.{shr-shr}
 use lib.Dec.{eqb}
 use lib.ListN.{length, getD, set, drop, List·getD-eq-default}
 use lib.Seq.{drop-cons, drop-length, getD-at}
@@ -18,6 +17,7 @@ use borrow.Author.Tests.{eqb-true, eq-eqb}
 use Rattle.plans.specs.Bits.{hasBit}
 use Rattle.plans.specs.Indices.{firstBad}
 use Rattle.plans.proofs.IndexLaws.{first-same}
+use Rattle.plans.proofs.BitLaws.{no-bit, has-low, has-half, has-or}
 use Rattle.text.specs.Bytes.{every}
 use Rattle.text.specs.Bounded.{tab}
 use Rattle.text.specs.Output.{over}
@@ -29,8 +29,7 @@ use Rattle.tables.specs.Table.{_∈_, nthRegion, numberOf, references}
 use Rattle.tables.specs.Reaching.{reachesBy}
 use Rattle.tables.specs.Steps.{isWritten, ready, waiting, nextRegion}
 use Rattle.tables.proofs.ListLaws.{some-at, some-found, every-at, every-of, unless}
-use Rattle.tables.proofs.LoopLaws.{has-or, row-next}
-use Rattle.tables.proofs.OrderLaws.{no-bit}
+use Rattle.tables.proofs.LoopLaws.{row-next}
 use Rattle.graph.specs.Inner.Rows.{bitAt, joined, isSubset, held, Referring}
 
 -- ---- a row at a time
@@ -109,19 +108,11 @@ rounds-past edges k (suc n) a b l = go (decLt n k) (rounds-past edges k n a b l)
 
 -- ---- a row within a set
 
-half-bit : (a k : ℕ) → hasBit (a / 2) k ≡ hasBit a (suc k)
-unfolding hasBit
-half-bit a k = let e : 1 + k ≡ suc k = omega arith in ap (λ (x : ℕ). eqb (x % 2) 1) (shr-shr a 1 k ∙ ap (λ (x : ℕ). a / 2 ^ x) e)
-
-odd-bit : (a : ℕ) → hasBit a 0 ≡ eqb (a % 2) 1
-unfolding hasBit
-odd-bit a = ap (λ (x : ℕ). eqb (x % 2) 1) (div-one a)
-
 union-within : (a b : ℕ) → ((k : ℕ) → hasBit a k ≡ true → hasBit b k ≡ true) → bitOr a b ≡ b
 union-within =
     bin-ind (λ (a : ℕ). (b : ℕ) → ((k : ℕ) → hasBit a k ≡ true → hasBit b k ≡ true) → bitOr a b ≡ b) (λ b h. refl)
     (λ a ih b h.
-    let e : bitOr (a / 2) (b / 2) ≡ b / 2 = ih (b / 2) (λ k t. half-bit b k ∙ h (suc k) (sym (half-bit a k) ∙ t)) in
+    let e : bitOr (a / 2) (b / 2) ≡ b / 2 = ih (b / 2) (λ k t. sym (has-half b k) ∙ h (suc k) (has-half a k ∙ t)) in
     let f : max (a % 2) (b % 2) ≡ b % 2 = low a b (h 0) in
     or-step a b ∙ rw (e, f) (div-add-mod' b 2))
   where
@@ -131,7 +122,7 @@ union-within =
         go : Dec (a % 2 < 1) → max (a % 2) (b % 2) ≡ b % 2
         go (yes u) = omega arith
         go (no u) =
-            let e : b % 2 ≡ 1 = eqb-true (b % 2) 1 (sym (odd-bit b) ∙ h (odd-bit a ∙ eq-eqb (a % 2) 1 (omega arith))) in
+            let e : b % 2 ≡ 1 = eqb-true (b % 2) 1 (sym (has-low b) ∙ h (has-low a ∙ eq-eqb (a % 2) 1 (omega arith))) in
             omega arith
 
 pub within-at : (a b k : ℕ) → isSubset a b ≡ true → hasBit a k ≡ true → hasBit b k ≡ true

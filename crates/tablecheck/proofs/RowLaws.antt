@@ -8,9 +8,8 @@ use native.Mathlib.Decide.{decLt}
 use lib.Dec.{ltb}
 use borrow.Author.Tests.{lt-ltb, le-ltb}
 use Rattle.plans.specs.Bits.{hasBit, withBit}
-use Rattle.plans.proofs.BitLaws.{has-with-same, has-with-other}
+use Rattle.plans.proofs.BitLaws.{has-with-same, has-with-other, no-bit}
 use Rattle.text.specs.Lines.{fields}
-use Rattle.tables.proofs.OrderLaws.{no-bit}
 use Rattle.linenames.specs.Inner.LineNames.{refersLine}
 use Rattle.resolve.specs.Inner.Reading.{lineAt, fieldsAt}
 use Rattle.tablecheck.specs.Inner.Names.{refersBy}

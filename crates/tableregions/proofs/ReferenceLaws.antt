@@ -3,17 +3,16 @@ use mathlib.Core.Path.{_≡_, refl, sym, ap, _∙_}
 use mathlib.Core.Bool.{Bool, true, false, cond, not, _||_, _&&_}
 use mathlib.Core.Logic.{⊎-elim}
 use mathlib.Core.Option.{none, some}
-use mathlib.Core.List.{List, [], _∷_, _++_, append-nil, append-assoc, List·Memᴰ·head as here, List·Memᴰ·tail as there}
+use mathlib.Core.List.{List, [], _∷_, _++_, append-assoc, List·Memᴰ·head as here, List·Memᴰ·tail as there}
 use Prim.Native.Nat.{ℕ, suc, _+_, _-_, _<_, _≤_, min}
 use native.Mathlib.Omega.{arith}
 use native.Mathlib.Decide.{decLt}
 use lib.Dec.{eqb, ltb}
-use lib.ListN.{length, getD}
+use lib.ListN.{length}
 use borrow.Author.Tests.{eqb-true, eqb-false, eq-eqb, ne-eqb, ltb-true, lt-ltb, le-ltb}
 use Rattle.plans.specs.Bits.{hasBit, withBit}
-use Rattle.plans.proofs.BitLaws.{has-with-same, has-with-other}
+use Rattle.plans.proofs.BitLaws.{has-with-same, has-with-other, no-bit}
 use Rattle.text.specs.Bounded.{tab}
-use Rattle.text.specs.Bytes.{every}
 use Rattle.text.specs.Lines.{fields}
 use Rattle.text.proofs.BoundedLaws.{getD-tab}
 use Rattle.text.proofs.TestLaws.{passed-or-failed}
@@ -23,11 +22,10 @@ use Rattle.gates.specs.Kinds.{fieldAt, lineKind, isNone, operandName}
 use Rattle.gates.specs.Gate.{Name, Region}
 use Rattle.gates.specs.Meaning.{bodyOf, parentOf, gateOf}
 use Rattle.gates.specs.Inner.Regions.{regionCount, lineShape, regionShape}
-use Rattle.tables.specs.Table.{_∈_, someOf, nthRegion, numberOf, operandNames, parentNames, bodyReferences, gateReferences, references, nthGate}
+use Rattle.tables.specs.Table.{_∈_, someOf, nthRegion, numberOf, operandNames, parentNames, bodyReferences, gateReferences, references}
 use Rattle.tables.specs.Head.{dimensions}
 use Rattle.tables.specs.Refusals.{isRegion, living}
 use Rattle.tables.proofs.ListLaws.{every-at}
-use Rattle.tables.proofs.OrderLaws.{no-bit}
 use Rattle.graph.specs.Inner.Rows.{bitAt, Referring}
 use Rattle.linenames.specs.Inner.LineNames.{referenceEnd, hasReference, referenceAt}
 use Rattle.linenames.proofs.LineLaws.{references-listed}

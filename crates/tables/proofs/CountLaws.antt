@@ -15,6 +15,7 @@ use Rattle.plans.specs.Bits.{hasBit}
 use Rattle.plans.specs.Refusals.{passed}
 use Rattle.plans.specs.Form.{width, checkOf}
 use Rattle.plans.proofs.IndexLaws.{howMany-same}
+use Rattle.plans.proofs.BitLaws.{no-bit}
 use Rattle.counter.specs.Members.{bitsOf}
 use Rattle.counter.specs.Judging.{taken, members}
 use Rattle.counter.specs.Counting.{eventAt, takenAt, spoiltAt, memberAt, listFrom, inRegion, tallyOf, countPassed, countOf}
@@ -29,7 +30,6 @@ use Rattle.tables.specs.Steps.{planWords}
 use Rattle.tables.proofs.ListLaws.{map-in, map-from}
 use Rattle.tables.proofs.NameLaws.{number-name, in-number}
 use Rattle.tables.proofs.SumLaws.{sum-same, sum-add, sum-none}
-use Rattle.tables.proofs.OrderLaws.{no-bit}
 use Rattle.tables.proofs.GateLaws.{orderly, region-of-gate, gate-of-region, quadrantRegion, moved-rules, moved-obeys}
 use Rattle.tables.proofs.PlanMembers.{bits-right}
 use Rattle.tables.proofs.MemberTheorems.{member-spoilt, member-obeys}

@@ -2,16 +2,16 @@
 use mathlib.Core.Path.{_≡_, refl}
 use mathlib.Core.Bool.{Bool, true, false, _&&_, _||_, cond}
 use mathlib.Core.List.{List, [], _∷_}
-use Prim.Native.Nat.{ℕ, zero, suc, _+_, _/_, _%_, _^_, _<_, _≤_, max}
+use Prim.Native.Nat.{ℕ, suc, _+_, _<_, _≤_}
 use native.Mathlib.Omega.{arith}
-use lib.Bits.{bitOr, or-shr, or-step}
-use lib.Dec.{eqb}
+use lib.Bits.{bitOr}
 use lib.ListN.{length}
 use borrow.Author.Tests.{lt-ltb, le-ltb}
 use Rattle.plans.specs.Indices.{firstBad}
 use Rattle.plans.specs.Bits.{hasBit, withBit}
 use Rattle.plans.specs.Refusals.{Verdict, refused}
 use Rattle.plans.proofs.IndexLaws.{first-is}
+use Rattle.plans.proofs.BitLaws.{has-or}
 use Rattle.gates.specs.Gate.{Region}
 use Rattle.tables.specs.Reaching.{reachesBy}
 use Rattle.tables.specs.Refusals.{unlessLine}
@@ -27,25 +27,6 @@ unless-refused number good k v i h before e =
     rw (z, lt-ltb i k h)
 
 -- ---- rows: bit b of row a says that a reaches b
-
-bit-or : (x y : ℕ) → eqb (max (x % 2) (y % 2)) 1 ≡ (eqb (x % 2) 1 || eqb (y % 2) 1)
-bit-or x y = go (x % 2) (y % 2) (omega arith) (omega arith)
-  where
-    go : (a b : ℕ) → a ≤ 1 → b ≤ 1 → eqb (max a b) 1 ≡ (eqb a 1 || eqb b 1)
-    go zero zero h l = refl
-    go zero (suc zero) h l = refl
-    go zero (suc (suc b)) h l = absurd (omega arith)
-    go (suc zero) zero h l = refl
-    go (suc zero) (suc zero) h l = refl
-    go (suc zero) (suc (suc b)) h l = absurd (omega arith)
-    go (suc (suc a)) b h l = absurd (omega arith)
-
-pub has-or : (x y r : ℕ) → hasBit (bitOr x y) r ≡ (hasBit x r || hasBit y r)
-unfolding hasBit
-has-or x y r =
-    let e : bitOr (x / 2 ^ r) (y / 2 ^ r) % 2 ≡ max (x / 2 ^ r % 2) (y / 2 ^ r % 2) =
-    rw (or-step (x / 2 ^ r) (y / 2 ^ r)) (let m = max (x / 2 ^ r % 2) (y / 2 ^ r % 2) in omega arith) in
-    rw (or-shr x y r, e) (bit-or (x / 2 ^ r) (y / 2 ^ r))
 
 module _ (edge : ℕ → ℕ → Bool) (s : ℕ) where
   -- row s stays as it is in its own round

@@ -6,13 +6,11 @@ use mathlib.Core.List.{List, [], _∷_, List·Memᴰ·head as here, List·Memᴰ
 use Prim.Native.Nat.{ℕ, zero, suc, _+_, _<_, _≤_}
 use native.Mathlib.Omega.{arith}
 use native.Mathlib.Decide.{decLt}
-use native.Mathlib.Nat.{div-eq-of-lt}
 use lib.Dec.{ltb, eqb}
-use lib.Pow.{pow-pos}
 use lib.ListN.{length}
 use borrow.Author.Tests.{ltb-true, ltb-false, eqb-true, eqb-false}
 use Rattle.plans.specs.Bits.{hasBit, withBit}
-use Rattle.plans.proofs.BitLaws.{has-with-same, has-with-other}
+use Rattle.plans.proofs.BitLaws.{has-with-same, has-with-other, no-bit}
 use Rattle.plans.proofs.IndexLaws.{first-at, first-before}
 use Rattle.text.specs.Bytes.{every}
 use Rattle.text.proofs.TestLaws.{true≢false, passed-or-failed, and-left, and-right}
@@ -38,10 +36,6 @@ pub record Orderly (rs : List Region) : Type 0 where
   pub loopless : (r : Region) → Reaches (Refer rs) r r → ⊥
 
 -- ---- bits
-
-pub no-bit : (r : ℕ) → hasBit 0 r ≡ false
-unfolding hasBit
-no-bit r = rw (div-eq-of-lt (pow-pos r))
 
 -- a bit of a set to which r is added
 pub with-cases : (w r s : ℕ) → r < 64 → hasBit (withBit w r) s ≡ true → (s ≡ r) ⊎ (hasBit w s ≡ true)

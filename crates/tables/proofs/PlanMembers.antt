@@ -15,7 +15,7 @@ use Rattle.plans.specs.Words.{word, number}
 use Rattle.integers.specs.Range.{inRange}
 use Rattle.plans.specs.Bits.{hasBit, withBit}
 use Rattle.plans.specs.Form.{regionAt, nextAt, stepCount}
-use Rattle.plans.proofs.BitLaws.{has-with-same, has-with-other}
+use Rattle.plans.proofs.BitLaws.{has-with-same, has-with-other, no-bit}
 use Rattle.plans.proofs.IndexLaws.{all-of, all-stop, any-stop}
 use Rattle.counter.specs.Members.{operandIn, shapeIn, parentIn, stepIn, settled, bitsOf}
 use Rattle.counter.specs.Judging.{taken}
@@ -29,7 +29,7 @@ use Rattle.tables.specs.Further.Obeying.{Obeys}
 use Rattle.tables.specs.Steps.{isWritten, shapeKind, referenceWord, bodyWords, parentWord, stepWords, stepsWords, order, planWords}
 use Rattle.tables.proofs.ListLaws.{every-fails, every-at, some-found, some-at, at-in, index-of, map-in}
 use Rattle.tables.proofs.NameLaws.{region-in, number-name, in-number}
-use Rattle.tables.proofs.OrderLaws.{Orderly, Ordered, after, no-bit, all-written, order-length, order-ordered}
+use Rattle.tables.proofs.OrderLaws.{Orderly, Ordered, after, all-written, order-length, order-ordered}
 use Rattle.tables.proofs.StepLaws.{kind-is, region-is, parent-is, body-is, next-is, noOperand, reference-there, reference-region, reference-odd}
 
 -- ---- tests over indices, and over the elements at them

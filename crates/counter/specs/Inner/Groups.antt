@@ -24,7 +24,7 @@ pub record SetOf (test : ℕ → Bool) (set : ℕ) : Type 0 where
 pub record Those (among : ℕ) (test : ℕ → Bool) (set : ℕ) : Type 0 where
   pub each : (e : ℕ) → e < 64 → hasBit set e ≡ (hasBit among e && test e)
 
--- the first event of a set of k: the only one of them that the number before does not have
+-- the first event of a set of events below k: of its bits the only one that the number one less does not have
 pub record First (k set first : ℕ) : Type 0 where
   pub below : first < k
   pub there : hasBit set first ≡ true
@@ -46,13 +46,13 @@ pub record Candidates (n : ℕ) (group : List ℤ) (g among : ℕ) : Type 0 wher
   pub few : g ≤ 64
   pub whole : g * n ≤ length group
   pub below : (e : ℕ) → e < 64 → hasBit among e ≡ true → e < g
-  pub inside : (e : ℕ) → e < 64 → hasBit among e ≡ true → e * n + n ≤ length group
   pub taken : (e : ℕ) → e < 64 → hasBit among e ≡ true → Taken (eventAt n group e)
 
--- event e is in triple t of a box, and in all of them before it
+-- event e is in triple t of a box
 unfoldable pub tripleAt : ℕ → List ℤ → List ℤ → ℕ → ℕ → Bool
 tripleAt n group body t e = tripleIn (eventAt n group e) body t
 
+-- event e is in the triples before the t-th
 unfoldable pub triplesAt : ℕ → List ℤ → List ℤ → ℕ → ℕ → Bool
 triplesAt n group body t e = all (tripleIn (eventAt n group e) body) t
 
@@ -67,7 +67,7 @@ pub record Agree (among : ℕ) (sets : List ℕ) (bits : ℕ → ℕ) : Type 0 w
   pub each : (e q : ℕ) → e < 64 → q < 64 → hasBit among e ≡ true → inSet sets e q ≡ hasBit (bits e) q
 
 -- the sets say of each event that is taken what its bits say, and hold no other
-pub record Kept (taken : ℕ) (sets : List ℕ) (bits : ℕ → ℕ) : Type 0 where
+pub record Matched (taken : ℕ) (sets : List ℕ) (bits : ℕ → ℕ) : Type 0 where
   pub each : (e q : ℕ) → e < 64 → q < 64 → inSet sets e q ≡ (hasBit taken e && hasBit (bits e) q)
 
 -- operand i of a combination, for event e
@@ -91,18 +91,18 @@ unfoldable pub shapeAt : Step → ℕ → List ℤ → List ℤ → (ℕ → ℕ
 shapeAt step n group body bits e = inStep step (eventAt n group e) (bits e) body
 
 -- no bits: for a shape, which does not look at them
-abbrev pub noBit : ℕ → ℕ
-noBit e = 0
+abbrev pub unset : ℕ → ℕ
+unset e = 0
 
 -- the step at a place makes event e a member of its region
 unfoldable pub memberBy : List ℤ → ℕ → List ℤ → ℕ → (ℕ → ℕ) → ℕ → Bool
 memberBy p n group at bits e = stepIn p (eventAt n group e) (bits e) at
 
--- event e is a member of region q
+-- event e is a member of region q, where it is taken
 unfoldable pub memberIn : List ℤ → ℕ → List ℤ → ℕ → ℕ → Bool
 memberIn p n group q e = hasBit (bitsOf p (eventAt n group e)) q
 
--- the sets of all regions, after all steps
-pub record Sorted (p : List ℤ) (n : ℕ) (group : List ℤ) (taken : ℕ) (sets : List ℕ) : Type 0 where
+-- the sets of the members of each region
+pub record MemberSets (p : List ℤ) (n : ℕ) (group : List ℤ) (taken : ℕ) (sets : List ℕ) : Type 0 where
   pub long : length sets ≡ 64
   pub each : (q : ℕ) → q < 64 → Those taken (memberIn p n group q) (getD sets q 0)

@@ -133,7 +133,7 @@ loop-again c =
     let in-loop = after-step-of .before .before in
     let inv = in-loop .before .loop .inv in
     let args = entry in-loop .args in
-    let found = after-step-of .step-of .ensures (inv .bits) (inv .kept) in
+    let found = after-step-of .step-of .ensures (inv .bits) (inv .matched) in
     rw (c .number-in3 .ensures, c .before .number-in2 .ensures)
     (settling-next (plan in-loop) (n in-loop) (args .group .now) (args .taken) inv (in-loop .loop-test .taken) (sound in-loop .1)
     (region-below (now in-loop)) found)

@@ -1,5 +1,5 @@
 -- `taken_each`: all has the events taken of those before the e-th.
-use mathlib.Core.Path.{_≡_, ap, _∙_}
+use mathlib.Core.Path.{_≡_}
 use mathlib.Core.List.{List}
 use Prim.Native.Nat.{ℕ, _+_, _-_, _*_, _≤_}
 use native.Mathlib.Omega.{arith}
@@ -8,7 +8,7 @@ use lib.ListN.{length, take, drop}
 use Rattle.counter.specs.Counting.{eventAt, takenAt}
 use Rattle.counter.specs.Inner.Groups.{SetOf, firstOf}
 use Rattle.counter.proofs.TallyLaws.{event-inside}
-use Rattle.counter.proofs.GroupLaws.{event-part, event-long, first-next, is-flag}
+use Rattle.counter.proofs.GroupLaws.{event-part, first-next}
 use borrow.Author.Needs.{needs}
 use Rattle.counter.proofs.groups.taken_each.Statement.{statement}
 use Rattle.counter.proofs.groups.taken_each.Tie as tie
@@ -45,17 +45,17 @@ module _ (in-loop : tie.In-loop Inv-loop μ-loop) where
 mul-start : tie.Need-mul-start Inv-loop μ-loop
 mul-start c = let l = lies c in let g = entry c .good in omega arith
 
-add-first-spoilt : tie.Need-add-first-spoilt Inv-loop μ-loop
-add-first-spoilt c = let l = lies c in let g = entry c .good in omega arith
+add-on-scale : tie.Need-add-on-scale Inv-loop μ-loop
+add-on-scale c = let l = lies c in let g = entry c .good in omega arith
 
-mul-first-spoilt : tie.Need-mul-first-spoilt Inv-loop μ-loop
-mul-first-spoilt c = let l = lies c in let g = entry c .good in omega arith
+mul-on-scale : tie.Need-mul-on-scale Inv-loop μ-loop
+mul-on-scale c = let l = lies c in let g = entry c .good in omega arith
 
-part-first-spoilt-start : tie.Need-part-first-spoilt-start Inv-loop μ-loop
-part-first-spoilt-start c = let l = lies c in omega arith
+part-on-scale-start : tie.Need-part-on-scale-start Inv-loop μ-loop
+part-on-scale-start c = let l = lies c in omega arith
 
-part-first-spoilt-end : tie.Need-part-first-spoilt-end Inv-loop μ-loop
-part-first-spoilt-end c = let l = lies c in omega arith
+part-on-scale-end : tie.Need-part-on-scale-end Inv-loop μ-loop
+part-on-scale-end c = let l = lies c in omega arith
 
 settle-requires : tie.Need-settle-requires Inv-loop μ-loop
 settle-requires c κs =
@@ -72,13 +72,13 @@ add-e c =
     omega arith
 
 loop-again : tie.Need-loop-again Inv-loop μ-loop
+unfolding takenAt
 loop-again c =
     let in-loop = c .before .before .before in
     let loop = in-loop .before .loop in
     let h = in-loop .loop-test .taken in
     let p = entry in-loop .pre .1 in
-    let long = ap length (event-is in-loop) ∙ event-long (n in-loop) (group in-loop) (loop .e) (lies in-loop) in
-    let flag = is-flag (n in-loop) (group in-loop) (loop .e) (event-is in-loop) long (c .before .first-spoilt .ensures) in
+    let flag = rw (event-is in-loop) at (c .before .on-scale .ensures) in
     (search needs, first-next _ (loop .e) (omega arith) flag (loop .inv .1) (c .settle .ensures))
 
 returns : tie.Need-returns Inv-loop μ-loop
@@ -95,11 +95,11 @@ taken-each-spec =
     μ-loop
     loop-holds
     mul-start
-    add-first-spoilt
-    mul-first-spoilt
+    add-on-scale
+    mul-on-scale
     (λ c. search needs)
-    part-first-spoilt-start
-    part-first-spoilt-end
+    part-on-scale-start
+    part-on-scale-end
     (λ c κs. search needs)
     settle-requires
     add-e

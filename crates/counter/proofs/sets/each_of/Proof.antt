@@ -9,14 +9,15 @@ use lib.ListN.{length, take, drop}
 use lib.Bits.{and-le-r}
 use Rattle.plans.specs.Bits.{hasBit}
 use Rattle.counter.specs.Counting.{eventAt}
-use Rattle.counter.specs.Inner.Groups.{First, shapeAt, noBit}
+use Rattle.counter.specs.Inner.Groups.{First, shapeAt, unset}
+use Rattle.counter.proofs.TallyLaws.{event-inside}
 use Rattle.counter.proofs.GroupLaws.{event-part, event-long, Asking, asking-all, asking-done, asked, asking-next}
 use borrow.Author.Needs.{needs}
 use Rattle.counter.proofs.sets.each_of.Statement.{statement}
 use Rattle.counter.proofs.sets.each_of.Tie as tie
 
 abbrev Inv-loop : tie.InvT-loop
-Inv-loop group n g among body step rest₀ found₀ rest found = Asking among (shapeAt step n group body noBit) rest found
+Inv-loop group n g among body step rest₀ found₀ rest found = Asking among (shapeAt step n group body unset) rest found
 
 abbrev μ-loop : tie.MeasureT-loop
 μ-loop group n g among body step rest₀ found₀ rest found = rest
@@ -48,7 +49,7 @@ module _ (after-first-of : tie.After-first-of Inv-loop μ-loop) where
   is-asked = asked (entry .args .among) _ (loop .loop .inv) first
 
   lies : e * n + n ≤ length group
-  lies = entry .pre .0 .inside e (first .below) is-asked
+  lies = event-inside n e (entry .args .g) (length group) (entry .pre .0 .below e (first .below) is-asked) (entry .pre .0 .whole)
 
   event-is : take (e * n + n - e * n) (drop (e * n) group) ≡ eventAt n group e
   event-is = event-part n group e lies

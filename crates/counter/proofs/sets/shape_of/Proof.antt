@@ -12,7 +12,8 @@ use Rattle.counter.proofs.sets.shape_of.Tie as tie
 box-of-requires : tie.Need-box-of-requires
 box-of-requires c κs =
     let p = c .before .before .pre in
-    (p .0, p .1, p .2, rw (c .enum-told .given .1) at (p .2))
+    let is-box = c .enum-told .given .1 in
+    (p .0, p .1, rw is-box at (p .2), (c .enum-told .given .0 .0, is-box))
 
 all-of-requires : tie.Need-all-of-requires
 all-of-requires c κs =
@@ -36,7 +37,7 @@ returns : tie.Need-returns
 unfolding shapeAt
 returns c bits agree =
     let is-box = c .before .enum-told .given .1 in
-    those-same (λ e h t. rw is-box) (c .box-of .ensures _ is-box)
+    those-same (λ e h t. rw is-box) (c .box-of .ensures)
 
 returns-2 : tie.Need-returns-2
 unfolding shapeAt
