@@ -39,7 +39,7 @@ extern "C" {
 #endif
 
 #define GATE_MAX_WORDS 4096 /* words of the longest plan */
-#define GATE_REGIONS 64     /* counts of a tally, bits of a judgement */
+#define GATE_REGIONS 64     /* counts of a tally, bits of each set of a judgement */
 #define GATE_NO_PARENT (-1) /* the parent of a step that has none */
 
 /* The refusals, in the order in which they are tested; the place that goes with each. */
@@ -67,8 +67,9 @@ enum gate_out {
     GATE_OUT_PLACE = 1,   /* all three functions */
     GATE_CHECK_OUT = 2,
 
-    GATE_OUT_BITS = 2, /* gate_judge: bit r is set when the event is a member of region r */
-    GATE_JUDGE_OUT = 3,
+    GATE_OUT_BITS = 2,    /* gate_judge: bit r is set when the event is a member of region r */
+    GATE_OUT_OUTLINE = 3, /* gate_judge: bit r is set when it is a member and on the outline of the region's own shape */
+    GATE_JUDGE_OUT = 4,
 
     GATE_OUT_TAKEN = 2,        /* gate_count: number of events taken */
     GATE_OUT_SPOILT_COUNT = 3, /* gate_count: number of events spoilt */
@@ -79,8 +80,20 @@ enum gate_out {
 /* Checks a plan: refusal (21, 22) and place. */
 void gate_check(const int32_t *plan, size_t plan_len, uint64_t out[2]);
 
-/* Judges one event: refusal (21 to 24), place, bits. A refused judging sets no bit. */
-void gate_judge(const int32_t *plan, size_t plan_len, const int32_t *event, size_t event_len, uint64_t out[3]);
+/*
+ * When a row of `out` grows, at its end, the function gets a new symbol with the row's length in its name, and the name
+ * used here is mapped to it. An object built with an earlier header, whose row is shorter, then fails to link and never
+ * has numbers written past its row. Callers in other languages name the symbol itself.
+ */
+#define gate_judge gate_judge_row4
+
+/*
+ * Judges one event: refusal (21 to 24), place, bits, outline bits. A refused judging sets no bit of either set.
+ * An outline bit is set when the event is a member of the region and on the outline of the region's own shape: on some
+ * edge of its polygon, wherever that edge lies, or on the rim of its ellipse, where both sides of the rule are equal.
+ * Boxes and combinations have no outline. An event outside the parent is no member, so neither of its bits is set.
+ */
+void gate_judge(const int32_t *plan, size_t plan_len, const int32_t *event, size_t event_len, uint64_t out[4]);
 
 /*
  * Counts a flat list of events, n values each: refusal (21 to 23), place, taken, spoilt, 64 counts.
@@ -100,6 +113,7 @@ struct gate_answer {
 struct gate_judgement {
     struct gate_answer answer;
     uint64_t bits;
+    uint64_t outline; /* of the regions in bits those whose outline the event is on */
 };
 
 /* The answer of a count. */
@@ -132,6 +146,7 @@ static inline struct gate_judgement gate_judge_event(const int32_t *plan, size_t
     gate_judge(plan, plan_len, event, event_len, out);
     judgement.answer = gate_answer_of(out);
     judgement.bits = out[GATE_OUT_BITS];
+    judgement.outline = out[GATE_OUT_OUTLINE];
     return judgement;
 }
 
@@ -152,6 +167,11 @@ static inline void gate_count_events(const int32_t *plan, size_t plan_len,
 /* 1 when the bits of a judgement have the region, from 0 to 63, else 0. */
 static inline int gate_is_member(uint64_t bits, int region) {
     return (int)(bits >> region & 1u);
+}
+
+/* 1 when the outline bits of a judgement have the region, from 0 to 63, else 0. */
+static inline int gate_is_on_outline(uint64_t outline, int region) {
+    return gate_is_member(outline, region);
 }
 
 #ifdef __cplusplus

@@ -1,7 +1,8 @@
 /*
  * agree PLANS NAME=LIB.so ..: runs random plans and events through gate_check, gate_judge and gate_count of all
  * libraries and demands equal answers. Plans are of good form and damaged, and of all kinds; many events lie on a
- * bound, an edge or a rim.
+ * bound, an edge or a rim, and each kind of outline must be met. A library after the first may be that of an earlier
+ * counter: as many numbers are compared as its row has.
  */
 #include "libraries.h"
 #include "plans.h"
@@ -13,7 +14,7 @@
 
 enum { MAX_LIBRARIES = 8, MAX_EVENTS = 200, MAX_N = 8 };
 
-/* Stands in the word after `out`, which nobody may write. */
+/* Stands in `out` before a call, and in the words after it, which nobody may write. */
 #define GUARD 0xA5A5A5A5A5A5A5A5u
 
 struct answer {
@@ -32,13 +33,20 @@ static void print_words(const char *what, const int32_t *words, size_t len) {
 enum function { CHECK, JUDGE, COUNT };
 
 static const char *const function_names[] = {"gate_check", "gate_judge", "gate_count"};
-static const size_t out_lengths[] = {GATE_CHECK_OUT, GATE_JUDGE_OUT, GATE_COUNT_OUT};
+
+/* The numbers in the row of a library's function. */
+static size_t out_length(const struct library *library, enum function function) {
+    switch (function) {
+    case CHECK: return GATE_CHECK_OUT;
+    case JUDGE: return library->judge_out;
+    default: return GATE_COUNT_OUT;
+    }
+}
 
 static struct answer ask(const struct library *library, enum function function, const struct plan *plan,
                          const int32_t *events, size_t events_len) {
     struct answer answer;
-    memset(&answer, 0, sizeof answer);
-    for (size_t i = 0; i <= out_lengths[function]; i++) answer.out[i] = GUARD;
+    for (size_t i = 0; i <= GATE_COUNT_OUT; i++) answer.out[i] = GUARD;
     switch (function) {
     case CHECK: library->check(plan->words, plan->len, answer.out); break;
     case JUDGE: library->judge(plan->words, plan->len, events, events_len, answer.out); break;
@@ -47,14 +55,22 @@ static struct answer ask(const struct library *library, enum function function, 
     return answer;
 }
 
+/* Whether the `len` numbers of a row are those of the first library, and none was written beyond them. */
+static bool agrees(const struct answer *answer, const struct answer *first, size_t len) {
+    for (size_t i = len; i <= GATE_COUNT_OUT; i++) {
+        if (answer->out[i] != GUARD) return false;
+    }
+    return memcmp(answer->out, first->out, len * sizeof answer->out[0]) == 0;
+}
+
 /* The answer of all libraries; ends the program where two differ or one writes beyond `out`. */
 static struct answer ask_all(enum function function, const struct plan *plan,
                              const int32_t *events, size_t events_len) {
-    size_t len = out_lengths[function];
     struct answer first = ask(&libraries[0], function, plan, events, events_len);
     for (int i = 0; i < library_count; i++) {
+        size_t len = out_length(&libraries[i], function);
         struct answer answer = ask(&libraries[i], function, plan, events, events_len);
-        if (memcmp(&answer, &first, sizeof answer) == 0 && answer.out[len] == GUARD) continue;
+        if (agrees(&answer, &first, len)) continue;
         fprintf(stderr, "%s: %s and %s differ, or write beyond out\n", function_names[function], libraries[0].name,
                 libraries[i].name);
         for (size_t j = 0; j <= len; j++) {
@@ -69,6 +85,36 @@ static struct answer ask_all(enum function function, const struct plan *plan,
     return first;
 }
 
+/* ---- Outlines ---- */
+
+enum outline { POLYGON, UPRIGHT_ELLIPSE, TILTED_ELLIPSE, OUTLINES };
+
+static const char *const outline_names[] = {"polygon", "upright ellipse", "tilted ellipse"};
+
+static uint64_t outline_bits[OUTLINES]; /* those that judged events had */
+
+/* Notes the outline bits of an event by the shapes of their regions; the plan passes. */
+static void note_outlines(const struct plan *plan, uint64_t outline) {
+    const int32_t *step = plan->words + 2;
+    for (int s = 0; s < plan->words[1]; s++) {
+        const int32_t *body = step + 4;
+        int bit = gate_is_on_outline(outline, step[1]);
+        if (step[0] == GATE_POLYGON) outline_bits[POLYGON] += bit;
+        else if (step[0] == GATE_ELLIPSE) outline_bits[body[5] == 0 ? UPRIGHT_ELLIPSE : TILTED_ELLIPSE] += bit;
+        step = body + step[3];
+    }
+}
+
+/* Prints the outline bits of each shape; ends the program where a shape has none. */
+static void demand_outlines(void) {
+    for (int i = 0; i < OUTLINES; i++) printf("outline bits, %-16s %8" PRIu64 "\n", outline_names[i], outline_bits[i]);
+    for (int i = 0; i < OUTLINES; i++) {
+        if (outline_bits[i] > 0) continue;
+        fprintf(stderr, "no outline bit was met, %s\n", outline_names[i]);
+        exit(1);
+    }
+}
+
 int main(int argc, char **argv) {
     if (argc < 4 || argc - 2 > MAX_LIBRARIES) {
         fprintf(stderr, "usage: agree PLANS NAME=LIB.so NAME=LIB.so ..\n");
@@ -76,10 +122,14 @@ int main(int argc, char **argv) {
     }
     long plans = strtol(argv[1], NULL, 10);
     for (int i = 2; i < argc; i++) libraries[library_count++] = load_library(argv[i]);
+    if (libraries[0].judge_out != GATE_JUDGE_OUT) {
+        fprintf(stderr, "%s: an earlier counter can't be the first library\n", libraries[0].name);
+        return 1;
+    }
 
     struct random random = seeded(2015);
     uint64_t checked[GATE_SPOILT + 1] = {0}, judged[GATE_SPOILT + 1] = {0}, counted[GATE_SPOILT + 1] = {0};
-    uint64_t taken = 0, aimed = 0;
+    uint64_t taken = 0, aimed = 0, on_outline = 0;
     for (long turn = 0; turn < plans; turn++) {
         static struct plan good, plan;
         int32_t events[MAX_EVENTS * MAX_N + 1] = {0};
@@ -97,7 +147,11 @@ int main(int argc, char **argv) {
         taken += answer.out[GATE_OUT_TAKEN];
         for (size_t i = 0; i < count && i < 8; i++) {
             size_t event_len = below(&random, 16) == 0 ? below(&random, n + 2) : n;
-            judged[ask_all(JUDGE, &plan, events + i * n, event_len).out[GATE_OUT_REFUSAL]]++;
+            struct answer judgement = ask_all(JUDGE, &plan, events + i * n, event_len);
+            judged[judgement.out[GATE_OUT_REFUSAL]]++;
+            if (judgement.out[GATE_OUT_REFUSAL] != GATE_PASSES) continue;
+            on_outline += judgement.out[GATE_OUT_OUTLINE] != 0;
+            note_outlines(&plan, judgement.out[GATE_OUT_OUTLINE]);
         }
     }
 
@@ -111,6 +165,8 @@ int main(int argc, char **argv) {
         printf("\n");
     }
     printf("%ld plans, all answers equal; %" PRIu64 " events taken in counts, %" PRIu64
-           " events put on a bound, an edge or a rim\n", plans, taken, aimed);
+           " events put on a bound, an edge or a rim, %" PRIu64 " events judged to be on an outline\n",
+           plans, taken, aimed, on_outline);
+    demand_outlines();
     return 0;
 }

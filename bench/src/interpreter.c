@@ -29,13 +29,23 @@ static bool in_box(const int32_t *body, int length, const int32_t *event) {
 
 static bool between(int64_t a, int64_t b, int64_t x) { return (a <= x && x <= b) || (b <= x && x <= a); }
 
+/* s of the polygon's rule, for the edge from (x0, y0) to (x1, y1). */
+static int64_t s_of(int64_t x0, int64_t y0, int64_t x1, int64_t y1, int64_t x, int64_t y) {
+    return (x1 - x0) * (y - y0) - (x - x0) * (y1 - y0);
+}
+
+/* Whether the edge with this s carries the point. */
+static bool on_edge(int64_t s, int64_t x0, int64_t y0, int64_t x1, int64_t y1, int64_t x, int64_t y) {
+    return s == 0 && between(x0, x1, x) && between(y0, y1, y);
+}
+
 static bool in_polygon(const int32_t *body, int length, const int32_t *event) {
     int64_t x = event[body[0]], y = event[body[1]], sum = 0;
     int64_t x0 = body[length - 2], y0 = body[length - 1];
     for (int i = 2; i < length; i += 2) {
         int64_t x1 = body[i], y1 = body[i + 1];
-        int64_t s = (x1 - x0) * (y - y0) - (x - x0) * (y1 - y0);
-        if (s == 0 && between(x0, x1, x) && between(y0, y1, y)) return true;
+        int64_t s = s_of(x0, y0, x1, y1, x, y);
+        if (on_edge(s, x0, y0, x1, y1, x, y)) return true;
         if (y0 <= y && y < y1 && s > 0) sum++;
         else if (y1 <= y && y < y0 && s < 0) sum--;
         x0 = x1;
@@ -44,11 +54,20 @@ static bool in_polygon(const int32_t *body, int length, const int32_t *event) {
     return sum != 0;
 }
 
-static bool in_ellipse(const int32_t *body, const int32_t *event) {
+/* Left side of the ellipse's rule. */
+static int64_t left_side(const int32_t *body, const int32_t *event) {
     int64_t dx = (int64_t)event[body[0]] - body[MEAN_X], dy = (int64_t)event[body[1]] - body[MEAN_Y];
     int64_t c11 = body[C11], c12 = body[C12], c22 = body[C22];
-    return c22 * dx * dx - 2 * c12 * dx * dy + c11 * dy * dy <= body[D2] * (c11 * c22 - c12 * c12);
+    return c22 * dx * dx - 2 * c12 * dx * dy + c11 * dy * dy;
 }
+
+/* Right side of the ellipse's rule. */
+static int64_t right_side(const int32_t *body) {
+    int64_t c11 = body[C11], c12 = body[C12], c22 = body[C22];
+    return body[D2] * (c11 * c22 - c12 * c12);
+}
+
+static bool in_ellipse(const int32_t *body, const int32_t *event) { return left_side(body, event) <= right_side(body); }
 
 static bool operand(uint64_t bits, int32_t word) { return has(bits, word / 2) != (word % 2 == 1); }
 
@@ -89,6 +108,44 @@ static uint64_t bits_of(const int32_t *plan, const int32_t *event) {
         step = body + length;
     }
     return bits;
+}
+
+/* ---- Outlines, for judging only: counting asks who is a member and no more ---- */
+
+static bool on_polygon(const int32_t *body, int length, const int32_t *event) {
+    int64_t x = event[body[0]], y = event[body[1]];
+    int64_t x0 = body[length - 2], y0 = body[length - 1];
+    for (int i = 2; i < length; i += 2) {
+        int64_t x1 = body[i], y1 = body[i + 1];
+        int64_t s = s_of(x0, y0, x1, y1, x, y);
+        if (on_edge(s, x0, y0, x1, y1, x, y)) return true;
+        x0 = x1;
+        y0 = y1;
+    }
+    return false;
+}
+
+/* Boxes and combinations have no outline. */
+static bool on_outline(int32_t kind, const int32_t *body, int length, const int32_t *event) {
+    switch (kind) {
+    case GATE_POLYGON: return on_polygon(body, length, event);
+    case GATE_ELLIPSE: return left_side(body, event) == right_side(body);
+    default: return false;
+    }
+}
+
+/* The outline bits of an event that is a member of these regions. */
+static uint64_t outline_of(const int32_t *plan, const int32_t *event, uint64_t bits) {
+    uint64_t outline = 0;
+    const int32_t *step = plan + 2;
+    for (int s = 0; s < plan[1]; s++) {
+        const int32_t *body = step + HEADER;
+        int length = step[LENGTH];
+        bool member = has(bits, step[REGION]);
+        if (member && on_outline(step[KIND], body, length, event)) outline |= (uint64_t)1 << step[REGION];
+        step = body + length;
+    }
+    return outline;
 }
 
 /* The index of the first value that spoils the event, n where there is none. */
@@ -200,7 +257,7 @@ void gate_check(const int32_t *plan, size_t plan_len, uint64_t out[2]) {
     passes(plan, plan_len, out);
 }
 
-void gate_judge(const int32_t *plan, size_t plan_len, const int32_t *event, size_t event_len, uint64_t out[3]) {
+void gate_judge(const int32_t *plan, size_t plan_len, const int32_t *event, size_t event_len, uint64_t out[4]) {
     memset(out, 0, GATE_JUDGE_OUT * sizeof out[0]);
     if (!passes(plan, plan_len, out)) return;
     int n = plan[0];
@@ -209,8 +266,12 @@ void gate_judge(const int32_t *plan, size_t plan_len, const int32_t *event, size
         return;
     }
     int i = first_spoilt(event, n);
-    if (i < n) refuse(out, GATE_SPOILT, i);
-    else out[GATE_OUT_BITS] = bits_of(plan, event);
+    if (i < n) {
+        refuse(out, GATE_SPOILT, i);
+        return;
+    }
+    out[GATE_OUT_BITS] = bits_of(plan, event);
+    out[GATE_OUT_OUTLINE] = outline_of(plan, event, out[GATE_OUT_BITS]);
 }
 
 void gate_count(const int32_t *plan, size_t plan_len, const int32_t *events, size_t events_len, uint64_t out[68]) {

@@ -65,6 +65,19 @@ mod counter {
 
     // ---- Members ----
 
+    /// The position of an event to a shape. Only polygons and ellipses have an outline, which belongs to the shape.
+    #[derive(Clone, Copy, PartialEq)]
+    enum Position {
+        Outside,
+        Inside,
+        OnOutline,
+    }
+
+    /// The position of an event that is on no outline.
+    fn off_outline(inside: bool) -> Position {
+        if inside { Position::Inside } else { Position::Outside }
+    }
+
     fn in_box(body: &[i32], event: &[i32]) -> bool {
         body.chunks_exact(3).all(|triple| {
             let value = event[triple[0] as usize];
@@ -76,7 +89,7 @@ mod counter {
         (a <= x && x <= b) || (b <= x && x <= a)
     }
 
-    fn in_polygon(body: &[i32], event: &[i32]) -> bool {
+    fn polygon_position(body: &[i32], event: &[i32]) -> Position {
         let (x, y) = (event[body[0] as usize] as i64, event[body[1] as usize] as i64);
         let vertices = &body[2..];
         let (mut x0, mut y0) = (vertices[vertices.len() - 2] as i64, vertices[vertices.len() - 1] as i64);
@@ -85,7 +98,7 @@ mod counter {
             let (x1, y1) = (vertex[0] as i64, vertex[1] as i64);
             let s = (x1 - x0) * (y - y0) - (x - x0) * (y1 - y0);
             if s == 0 && between(x0, x1, x) && between(y0, y1, y) {
-                return true;
+                return Position::OnOutline;
             }
             if y0 <= y && y < y1 && s > 0 {
                 sum += 1;
@@ -94,43 +107,60 @@ mod counter {
             }
             (x0, y0) = (x1, y1);
         }
-        sum != 0
+        off_outline(sum != 0)
     }
 
-    fn in_ellipse(body: &[i32], event: &[i32]) -> bool {
+    fn ellipse_position(body: &[i32], event: &[i32]) -> Position {
         let dx = event[body[0] as usize] as i64 - body[2] as i64;
         let dy = event[body[1] as usize] as i64 - body[3] as i64;
         let (c11, c12, c22, d2) = (body[4] as i64, body[5] as i64, body[6] as i64, body[7] as i64);
-        c22 * dx * dx - 2 * c12 * dx * dy + c11 * dy * dy <= d2 * (c11 * c22 - c12 * c12)
+        let left = c22 * dx * dx - 2 * c12 * dx * dy + c11 * dy * dy;
+        let right = d2 * (c11 * c22 - c12 * c12);
+        if left == right {
+            Position::OnOutline
+        } else {
+            off_outline(left < right)
+        }
     }
 
     fn operand(bits: u64, word: i32) -> bool {
         has(bits, word / 2) != (word % 2 == 1)
     }
 
-    fn in_shape(shape: Shape, event: &[i32], bits: u64) -> bool {
+    fn shape_position(shape: Shape, event: &[i32], bits: u64) -> Position {
         match shape {
-            Shape::Box(body) => in_box(body, event),
-            Shape::Polygon(body) => in_polygon(body, event),
-            Shape::Ellipse(body) => in_ellipse(body, event),
-            Shape::And(body) => body.iter().all(|&word| operand(bits, word)),
-            Shape::Or(body) => body.iter().any(|&word| operand(bits, word)),
-            Shape::Not(word) => !operand(bits, word),
+            Shape::Box(body) => off_outline(in_box(body, event)),
+            Shape::Polygon(body) => polygon_position(body, event),
+            Shape::Ellipse(body) => ellipse_position(body, event),
+            Shape::And(body) => off_outline(body.iter().all(|&word| operand(bits, word))),
+            Shape::Or(body) => off_outline(body.iter().any(|&word| operand(bits, word))),
+            Shape::Not(word) => off_outline(!operand(bits, word)),
         }
     }
 
+    /// The regions that an event is a member of, and those of them whose outline it is on.
+    pub struct RegionBits {
+        pub members: u64,
+        pub outline: u64,
+    }
+
     /// The bits of an event that is taken.
-    fn bits_of(plan: &[i32], event: &[i32]) -> u64 {
-        let (mut bits, mut at) = (0, 2);
+    fn bits_of(plan: &[i32], event: &[i32]) -> RegionBits {
+        let (mut members, mut outline, mut at) = (0, 0, 2);
         for _ in 0..plan[1] {
             let step = step_at(plan, at);
-            let in_parent = step.parent == NO_PARENT || has(bits, step.parent);
-            if in_parent && in_shape(step.shape, event, bits) {
-                bits |= 1 << step.region;
+            if step.parent == NO_PARENT || has(members, step.parent) {
+                let position = shape_position(step.shape, event, members);
+                if position != Position::Outside {
+                    members |= 1 << step.region;
+                }
+                if position == Position::OnOutline {
+                    outline |= 1 << step.region;
+                }
             }
             at = step.next;
         }
-        bits
+        RegionBits { members, outline }
     }
 
     fn first_spoilt(event: &[i32]) -> Option<usize> {
@@ -224,7 +254,7 @@ mod counter {
         form(plan).map_err(|place| Refusal(22, place))
     }
 
-    pub fn judge(plan: &[i32], event: &[i32]) -> Result<u64, Refusal> {
+    pub fn judge(plan: &[i32], event: &[i32]) -> Result<RegionBits, Refusal> {
         check(plan)?;
         if event.len() != plan[0] as usize {
             return Err(Refusal(23, event.len()));
@@ -246,7 +276,7 @@ mod counter {
             if first_spoilt(event).is_some() {
                 tally.spoilt += 1;
             } else {
-                let bits = bits_of(plan, event);
+                let bits = bits_of(plan, event).members;
                 tally.taken += 1;
                 for region in 0..steps {
                     tally.counts[region] += (bits >> region) & 1;
@@ -275,7 +305,7 @@ pub unsafe extern "C" fn gate_check(plan: *const i32, plan_len: usize, out: *mut
 }
 
 #[no_mangle]
-pub unsafe extern "C" fn gate_judge(
+pub unsafe extern "C" fn gate_judge_row4(
     plan: *const i32,
     plan_len: usize,
     event: *const i32,
@@ -283,10 +313,13 @@ pub unsafe extern "C" fn gate_judge(
     out: *mut u64,
 ) {
     let (plan, event) = (from_raw_parts(plan, plan_len), from_raw_parts(event, event_len));
-    let out = from_raw_parts_mut(out, 3);
+    let out = from_raw_parts_mut(out, 4);
     out.fill(0);
     match counter::judge(plan, event) {
-        Ok(bits) => out[2] = bits,
+        Ok(bits) => {
+            out[2] = bits.members;
+            out[3] = bits.outline;
+        }
         Err(refusal) => refuse(out, refusal),
     }
 }

@@ -6,14 +6,26 @@
 #include <stdlib.h>
 #include <string.h>
 
-void *load_function(const char *file, const char *function) {
+/* The address of a function in a shared object; null where that fails. */
+static void *find_function(const char *file, const char *function) {
     void *object = dlopen(file, RTLD_NOW | RTLD_LOCAL);
-    void *address = object == NULL ? NULL : dlsym(object, function);
+    return object == NULL ? NULL : dlsym(object, function);
+}
+
+void *load_function(const char *file, const char *function) {
+    void *address = find_function(file, function);
     if (address == NULL) {
         fprintf(stderr, "%s\n", dlerror());
         exit(1);
     }
     return address;
+}
+
+/* Judging by the symbol of gatecount.h or, where the library has no such, by that of earlier counters: a row of 3. */
+static void load_judge(struct library *library, const char *file) {
+    void *address = find_function(file, "gate_judge_row4");
+    library->judge_out = address == NULL ? 3 : GATE_JUDGE_OUT;
+    *(void **)&library->judge = address == NULL ? load_function(file, "gate_judge") : address;
 }
 
 struct library load_library(char *argument) {
@@ -27,7 +39,7 @@ struct library load_library(char *argument) {
     library.name = argument;
     /* POSIX's way from dlsym's pointer to a function */
     *(void **)&library.check = load_function(equals + 1, "gate_check");
-    *(void **)&library.judge = load_function(equals + 1, "gate_judge");
     *(void **)&library.count = load_function(equals + 1, "gate_count");
+    load_judge(&library, equals + 1);
     return library;
 }

@@ -4,11 +4,12 @@
 
 #include "gatecount.h"
 
-/* One that has the functions of gatecount.h. */
+/* One that has the functions of gatecount.h, or those of an earlier counter. */
 struct library {
     const char *name;
     void (*check)(const int32_t *plan, size_t plan_len, uint64_t *out);
     void (*judge)(const int32_t *plan, size_t plan_len, const int32_t *event, size_t event_len, uint64_t *out);
+    size_t judge_out; /* numbers in the row of judge: GATE_JUDGE_OUT, fewer in an earlier counter */
     void (*count)(const int32_t *plan, size_t plan_len, const int32_t *events, size_t events_len, uint64_t *out);
 };
 

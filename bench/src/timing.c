@@ -48,11 +48,16 @@ static uint64_t answers[MAX_CONTENDERS][GATE_COUNT_OUT];
 
 static bool takes_part(const struct contender *contender, unsigned groups) { return (contender->groups & groups) != 0; }
 
+/* The numbers of a counter's answer; single calls have no row longer than that of gate_judge. */
+static size_t out_length(int contender) {
+    return load.group == CALLS ? contenders[contender].library.judge_out : GATE_COUNT_OUT;
+}
+
 /* Whether its answer is that of the proved counter. Boost's and Java's may differ, which is printed below the row. */
 static bool agrees(int contender) {
     const uint64_t *answer = answers[contender], *proved = answers[0];
     switch (contenders[contender].kind) {
-    case COUNTER: return memcmp(answer, proved, sizeof answers[0]) == 0;
+    case COUNTER: return memcmp(answer, proved, out_length(contender) * sizeof answer[0]) == 0;
     case ONE_PASS: return answer[GATE_OUT_SPOILT_COUNT] == proved[GATE_OUT_SPOILT_COUNT];
     default: return true;
     }

@@ -58,6 +58,7 @@ static void test_example(void) {
         0,
         1 << LIVE | 1 << RING | 1 << LO | 1 << BOTH,
     };
+    static const uint64_t outline[] = {1 << RING, 1 << RING, 0, 0, 0};
     struct gate_answer answer = gate_check_plan(example, LENGTH(example));
     struct gate_tally tally;
 
@@ -79,70 +80,122 @@ static void test_example(void) {
         expect_number(judgement.answer.refusal, GATE_PASSES, "event is judged");
         expect_number(judgement.answer.place, 0, "place of a judging that is not refused");
         expect_number(judgement.bits, bits[i], "bits of an event");
+        expect_number(judgement.outline, outline[i], "outline bits of an event");
     }
     expect(gate_is_member(bits[0], RING) && !gate_is_member(bits[0], LIVE), "members by bits");
+    expect(gate_is_on_outline(outline[0], RING) && !gate_is_on_outline(outline[0], HI), "on an outline by bits");
 }
 
 /* ---- Shapes ---- */
 
-/* Whether the event is a member of region 0. */
-static int is_in(const int32_t *plan, size_t plan_len, int32_t x, int32_t y) {
+enum position { OUTSIDE, INSIDE, ON_OUTLINE };
+
+/* The event is no member of region 0, a member, or one on the outline. */
+static void expect_position(const char *what, const int32_t *plan, size_t plan_len, int32_t x, int32_t y,
+                            enum position position) {
     const int32_t event[] = {x, y};
     struct gate_judgement judgement = gate_judge_event(plan, plan_len, event, LENGTH(event));
     expect_number(judgement.answer.refusal, GATE_PASSES, "event of a shape is judged");
-    return gate_is_member(judgement.bits, 0);
+    expect(gate_is_member(judgement.bits, 0) == (position != OUTSIDE), what);
+    expect(gate_is_on_outline(judgement.outline, 0) == (position == ON_OUTLINE), what);
 }
 
 static void test_shapes(void) {
     static const int32_t box[] = {2, 1, GATE_BOX, 0, -1, 6, 1, -5, 5, 0, -65536, 65536};
-    expect(is_in(box, LENGTH(box), 65535, -5), "min is in the box");
-    expect(!is_in(box, LENGTH(box), 0, 5), "max is not in the box");
+    expect_position("min is in the box", box, LENGTH(box), 65535, -5, INSIDE);
+    expect_position("max is not in the box", box, LENGTH(box), 0, 5, OUTSIDE);
 
     static const int32_t triangle[] = {2, 1, GATE_POLYGON, 0, -1, 8, 0, 1, 0, 0, 10, 0, 10, 10};
-    expect(is_in(triangle, LENGTH(triangle), 9, 5), "triangle holds its inside");
-    expect(is_in(triangle, LENGTH(triangle), 5, 5), "triangle holds its edge");
-    expect(!is_in(triangle, LENGTH(triangle), 4, 5), "triangle ends at its edge");
-    expect(!is_in(triangle, LENGTH(triangle), -1, 0), "level with the base");
-    expect(!is_in(triangle, LENGTH(triangle), 0, 10), "level with the top");
-    expect(!is_in(triangle, LENGTH(triangle), 10, 11), "above an upright edge");
+    expect_position("triangle holds its inside", triangle, LENGTH(triangle), 9, 5, INSIDE);
+    expect_position("triangle holds its edge", triangle, LENGTH(triangle), 5, 5, ON_OUTLINE);
+    expect_position("triangle holds its vertex", triangle, LENGTH(triangle), 10, 10, ON_OUTLINE);
+    expect_position("triangle ends at its edge", triangle, LENGTH(triangle), 4, 5, OUTSIDE);
+    expect_position("level with the base", triangle, LENGTH(triangle), -1, 0, OUTSIDE);
+    expect_position("level with the top", triangle, LENGTH(triangle), 0, 10, OUTSIDE);
+    expect_position("above an upright edge", triangle, LENGTH(triangle), 10, 11, OUTSIDE);
 
     static const int32_t widest[] = {2, 1, GATE_POLYGON, 0, -1, 8, 1, 0, -65536, -65536, -65536, 65535, 65535, -65536};
-    expect(is_in(widest, LENGTH(widest), -1, 0), "widest triangle holds its edge");
-    expect(is_in(widest, LENGTH(widest), -1, -1), "widest triangle holds its inside");
-    expect(!is_in(widest, LENGTH(widest), 0, 0), "widest triangle ends at its edge");
+    expect_position("widest triangle holds its edge", widest, LENGTH(widest), -1, 0, ON_OUTLINE);
+    expect_position("widest triangle holds its inside", widest, LENGTH(widest), -1, -1, INSIDE);
+    expect_position("widest triangle ends at its edge", widest, LENGTH(widest), 0, 0, OUTSIDE);
 
     static const int32_t square_twice[] = {2, 1, GATE_POLYGON, 0, -1, 18, 0, 1,
                                            0, 0, 10, 0, 10, 10, 0, 10, 0, 0, 10, 0, 10, 10, 0, 10};
-    expect(is_in(square_twice, LENGTH(square_twice), 5, 5), "square walked twice holds its middle");
-    expect(is_in(square_twice, LENGTH(square_twice), 10, 5), "square walked twice holds its edge");
-    expect(!is_in(square_twice, LENGTH(square_twice), 11, 5), "square walked twice ends at its edge");
+    expect_position("square walked twice holds its middle", square_twice, LENGTH(square_twice), 5, 5, INSIDE);
+    expect_position("square walked twice holds its edge", square_twice, LENGTH(square_twice), 10, 5, ON_OUTLINE);
+    expect_position("square walked twice ends at its edge", square_twice, LENGTH(square_twice), 11, 5, OUTSIDE);
+
+    static const int32_t edge_within[] = {2, 1, GATE_POLYGON, 0, -1, 14, 0, 1, 0, 0, 12, 0, 12, 12, 0, 12, 0, 0, 6, 6};
+    expect_position("edge within a square", edge_within, LENGTH(edge_within), 3, 3, ON_OUTLINE);
+    expect_position("beside an edge within a square", edge_within, LENGTH(edge_within), 3, 4, INSIDE);
+    expect_position("behind an edge within a square", edge_within, LENGTH(edge_within), 7, 7, INSIDE);
 
     static const int32_t flat[] = {2, 1, GATE_POLYGON, 0, -1, 8, 0, 1, 0, 0, 4, 0, 8, 0};
-    expect(is_in(flat, LENGTH(flat), 4, 0), "flat triangle holds its edge");
-    expect(!is_in(flat, LENGTH(flat), 4, 1), "flat triangle holds nothing else");
+    expect_position("flat triangle holds its edge", flat, LENGTH(flat), 4, 0, ON_OUTLINE);
+    expect_position("flat triangle holds nothing else", flat, LENGTH(flat), 4, 1, OUTSIDE);
+    expect_position("flat triangle ends", flat, LENGTH(flat), 9, 0, OUTSIDE);
 
     static const int32_t ellipse[] = {2, 1, GATE_ELLIPSE, 0, -1, 8, 0, 1, 0, 0, 5, 6, 9, 1};
-    expect(is_in(ellipse, LENGTH(ellipse), 0, 0), "ellipse holds its mean");
-    expect(is_in(ellipse, LENGTH(ellipse), 2, 3), "ellipse holds its rim");
-    expect(!is_in(ellipse, LENGTH(ellipse), 3, 2), "ellipse ends at its rim");
+    expect_position("ellipse holds its mean", ellipse, LENGTH(ellipse), 0, 0, INSIDE);
+    expect_position("ellipse holds its rim", ellipse, LENGTH(ellipse), 2, 3, ON_OUTLINE);
+    expect_position("ellipse ends at its rim", ellipse, LENGTH(ellipse), 3, 2, OUTSIDE);
 
     static const int32_t wide[] = {2, 1, GATE_ELLIPSE, 0, -1, 8, 0, 1, -65536, 0, 16777216, 0, 16777216, 256};
-    expect(is_in(wide, LENGTH(wide), 0, 0), "wide ellipse holds its rim");
-    expect(!is_in(wide, LENGTH(wide), 0, 1), "wide ellipse ends at its rim");
+    expect_position("wide ellipse holds its rim", wide, LENGTH(wide), 0, 0, ON_OUTLINE);
+    expect_position("wide ellipse holds what is next to its rim", wide, LENGTH(wide), -1, 0, INSIDE);
+    expect_position("wide ellipse ends at its rim", wide, LENGTH(wide), 0, 1, OUTSIDE);
+
+    static const int32_t wider[] = {2, 1, GATE_ELLIPSE, 0, -1, 8, 0, 1, -65536, -65536, 16777216, 0, 16777216, 1225};
+    expect_position("wider ellipse holds its rim", wider, LENGTH(wider), 20480, 49152, ON_OUTLINE);
+    expect_position("wider ellipse holds what is next to its rim", wider, LENGTH(wider), 20479, 49152, INSIDE);
+    expect_position("wider ellipse ends at its rim", wider, LENGTH(wider), 20480, 49153, OUTSIDE);
 
     static const int32_t level[] = {2, 1, GATE_ELLIPSE, 0, -1, 8, 0, 1, 0, 0, 3000000, 0, 2000000, 1000};
-    expect(is_in(level, LENGTH(level), 54772, 0), "level ellipse holds what is just inside its rim");
-    expect(!is_in(level, LENGTH(level), 54773, 0), "level ellipse does not hold what is just outside");
+    expect_position("level ellipse holds what is just inside its rim", level, LENGTH(level), 54772, 0, INSIDE);
+    expect_position("level ellipse does not hold what is just outside", level, LENGTH(level), 54773, 0, OUTSIDE);
 
     static const int32_t either[] = {2, 3, GATE_BOX, 1, -1, 3, 0, 0, 10, GATE_BOX, 2, -1, 3, 1, 0, 10,
                                      GATE_OR, 0, -1, 2, 2 * 1, 2 * 2 + 1};
-    expect(is_in(either, LENGTH(either), 5, 5), "or by its first operand");
-    expect(is_in(either, LENGTH(either), 50, 50), "or by its second operand");
-    expect(!is_in(either, LENGTH(either), 50, 5), "or by none");
+    expect_position("or by its first operand", either, LENGTH(either), 5, 5, INSIDE);
+    expect_position("or by its second operand", either, LENGTH(either), 50, 50, INSIDE);
+    expect_position("or by none", either, LENGTH(either), 50, 5, OUTSIDE);
 
     static const int32_t other[] = {2, 2, GATE_BOX, 1, -1, 3, 0, 0, 10, GATE_NOT, 0, -1, 1, 2 * 1};
-    expect(is_in(other, LENGTH(other), 10, 5), "not: outside");
-    expect(!is_in(other, LENGTH(other), 9, 5), "not: inside");
+    expect_position("not: outside", other, LENGTH(other), 10, 5, INSIDE);
+    expect_position("not: inside", other, LENGTH(other), 9, 5, OUTSIDE);
+}
+
+/* A square, a disc within it by its parent, and regions without an outline that refer to the two. */
+static void test_outlines(void) {
+    enum { SQUARE, DISC, STRIP, CUT, UNION, SAME };
+    static const int32_t plan[] = {
+        2, 6,
+        GATE_POLYGON, SQUARE, -1, 10, 0, 1, 0, 0, 10, 0, 10, 10, 0, 10,
+        GATE_ELLIPSE, DISC, SQUARE, 8, 0, 1, 5, 0, 1, 0, 1, 25, /* of radius 5 around (5, 0) */
+        GATE_BOX, STRIP, SQUARE, 3, 0, 0, 11,
+        GATE_AND, CUT, -1, 2, 2 * SQUARE, 2 * DISC,
+        GATE_OR, UNION, DISC, 2, 2 * SQUARE, 2 * DISC,
+        GATE_NOT, SAME, -1, 1, 2 * SQUARE + 1,
+    };
+    static const struct {
+        const char *what;
+        int32_t event[2];
+        uint64_t bits, outline;
+    } cases[] = {
+        {"within the square and the disc", {5, 3}, 0x3F, 0},
+        {"on the rim, within the square", {5, 5}, 0x3F, 1 << DISC},
+        {"on the rim and on an edge", {0, 0}, 0x3F, 1 << SQUARE | 1 << DISC},
+        {"on an edge, within the disc", {4, 0}, 0x3F, 1 << SQUARE},
+        {"on a vertex, outside the disc", {10, 10}, 1 << SQUARE | 1 << STRIP | 1 << SAME, 1 << SQUARE},
+        {"on the rim, outside the square", {5, -5}, 0, 0},
+        {"outside", {11, 0}, 0, 0},
+    };
+    for (size_t i = 0; i < LENGTH(cases); i++) {
+        struct gate_judgement judgement = gate_judge_event(plan, LENGTH(plan), cases[i].event, 2);
+        expect_number(judgement.answer.refusal, GATE_PASSES, cases[i].what);
+        expect_number(judgement.bits, cases[i].bits, cases[i].what);
+        expect_number(judgement.outline, cases[i].outline, cases[i].what);
+    }
 }
 
 /* 64 boxes in a line: region r holds the values from r on. */
@@ -159,7 +212,23 @@ static void test_all_regions(void) {
     for (int r = 0; r < GATE_REGIONS; r++) {
         expect_number(tally.counts[r], r == 0 ? 3 : r < 63 ? 2 : 1, "count of one of 64 regions");
     }
-    expect_number(gate_judge_event(plan, LENGTH(plan), events, 1).bits, UINT64_MAX, "member of all 64 regions");
+    struct gate_judgement judgement = gate_judge_event(plan, LENGTH(plan), events, 1);
+    expect_number(judgement.bits, UINT64_MAX, "member of all 64 regions");
+    expect_number(judgement.outline, 0, "64 boxes have no outline");
+}
+
+/* 64 triangles around the origin, each the parent of the next; it is a vertex of every other one. */
+static void test_all_outlines(void) {
+    static int32_t plan[2 + 12 * GATE_REGIONS] = {2, GATE_REGIONS};
+    static const int32_t origin[] = {0, 0};
+    for (int r = 0; r < GATE_REGIONS; r++) {
+        const int32_t step[] = {GATE_POLYGON, r, r - 1, 8, 0, 1, -9, -9, 9, -9, 0, r % 2 ? 0 : 9};
+        memcpy(plan + 2 + 12 * r, step, sizeof step);
+    }
+    struct gate_judgement judgement = gate_judge_event(plan, LENGTH(plan), origin, 2);
+    expect_number(judgement.answer.refusal, GATE_PASSES, "event of 64 triangles is judged");
+    expect_number(judgement.bits, UINT64_MAX, "member of all 64 triangles");
+    expect_number(judgement.outline, UINT64_C(0xAAAAAAAAAAAAAAAA), "on the outline of every other triangle");
 }
 
 /* ---- Refusals ---- */
@@ -294,11 +363,15 @@ static void test_longest_plan(void) {
     expect_refused("longest plan, malformed", plan, len, GATE_MALFORMED_PLAN, 0);
 }
 
+/* The answer, and no bit in either set: the event is refused, or in no region of the example. */
 static void expect_judged(const char *what, const int32_t *event, size_t event_len, uint64_t number, uint64_t place) {
-    struct gate_judgement judgement = gate_judge_event(example, LENGTH(example), event, event_len);
-    expect_number(judgement.answer.refusal, number, what);
-    expect_number(judgement.answer.place, place, what);
-    if (number != GATE_PASSES) expect_number(judgement.bits, 0, what);
+    uint64_t judged[GATE_JUDGE_OUT];
+    memset(judged, 0xFF, sizeof judged);
+    gate_judge(example, LENGTH(example), event, event_len, judged);
+    expect_number(judged[GATE_OUT_REFUSAL], number, what);
+    expect_number(judged[GATE_OUT_PLACE], place, what);
+    expect_number(judged[GATE_OUT_BITS], 0, what);
+    expect_number(judged[GATE_OUT_OUTLINE], 0, what);
 }
 
 static void test_events(void) {
@@ -373,7 +446,9 @@ int main(void) {
     test_example();
     test_compiling();
     test_shapes();
+    test_outlines();
     test_all_regions();
+    test_all_outlines();
     test_form();
     test_longest_plan();
     test_events();

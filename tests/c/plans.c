@@ -26,6 +26,14 @@ static long list(int32_t *into)
     return length;
 }
 
+/* A space and the bits, region 0 first. */
+static void print_bits(uint64_t bits)
+{
+    putchar(' ');
+    for (int r = 0; r < GATE_REGIONS; r++)
+        putchar(bits >> r & 1 ? '1' : '0');
+}
+
 /* The question `compile`: 1 where its line is good. */
 static int compile(void)
 {
@@ -80,11 +88,11 @@ int main(void)
         if (length < 0)
             return 1;
         if (strcmp(word, "judge") == 0) {
-            uint64_t out[3];
+            uint64_t out[GATE_JUDGE_OUT];
             gate_judge(plan, (size_t)words, values, (size_t)length, out);
-            printf("%" PRIu64 " %" PRIu64 " ", out[0], out[1]);
-            for (int r = 0; r < 64; r++)
-                putchar(out[2] >> r & 1 ? '1' : '0');
+            printf("%" PRIu64 " %" PRIu64, out[0], out[1]);
+            print_bits(out[GATE_OUT_BITS]);
+            print_bits(out[GATE_OUT_OUTLINE]);
             putchar('\n');
         } else if (strcmp(word, "count") == 0) {
             uint64_t out[68];

@@ -13,9 +13,10 @@ harness() {
     plain_counter ''
 }
 
-# The plain counter under other names, with a fault planted by a sed command where one is given.
+# The plain counter under other names, with a fault planted by a sed command where one is given. gatecount.h makes gate_judge
+# gate_judge_row4, so that this is the name to change.
 plain_counter() {
-    sed "$1" bench/src/interpreter.c | gcc -std=c99 -O2 -Iinclude -Dgate_check=plain_check -Dgate_judge=plain_judge \
+    sed "$1" bench/src/interpreter.c | gcc -std=c99 -O2 -Iinclude -Dgate_check=plain_check -Dgate_judge_row4=plain_judge \
         -Dgate_count=plain_count -x c -c - -o $out/objects/plain.o
 }
 

@@ -65,13 +65,14 @@ static void same_words(const int32_t *copy, const int32_t *words, size_t length)
 
 static struct room plan_room, values_room, out_room;
 
-/* One event judged by both; its bits. */
+/* One event judged by both; its bits. Only members may be on an outline. */
 static uint64_t judged(const int32_t *plan, size_t plan_len, const int32_t *event, size_t length, int at_start)
 {
     uint64_t *out = lend(&out_room, GATE_JUDGE_OUT * sizeof *out, at_start), plain[GATE_JUDGE_OUT];
     memset(out, 0xa5, sizeof plain);
     gate_judge(plan, plan_len, event, length, out);
     plain_judge(plan, plan_len, event, length, plain);
+    MUST((out[GATE_OUT_OUTLINE] & ~out[GATE_OUT_BITS]) == 0);
     MUST(memcmp(out, plain, sizeof plain) == 0);
     return out[GATE_OUT_BITS];
 }
@@ -113,6 +114,21 @@ int same_answers(const int32_t *plan_given, size_t plan_len, const int32_t *valu
     return passes;
 }
 
+/* Puts an event on a vertex of a step of the plan, where that step is a polygon. */
+static void put_on_vertex(const int32_t *plan, int32_t *event, uint64_t *seed)
+{
+    const int32_t *step = plan + 2;
+    if (plan[1] == 0)
+        return;
+    for (uint64_t steps = next_of(seed) % (uint64_t)plan[1]; steps > 0; steps--)
+        step += 4 + step[3];
+    if (step[0] == GATE_POLYGON) {
+        const int32_t *body = step + 4, *vertex = body + 2 + 2 * (next_of(seed) % (uint64_t)(step[3] / 2 - 1));
+        event[body[0]] = vertex[0];
+        event[body[1]] = vertex[1];
+    }
+}
+
 void same_on_near_events(const int32_t *plan, size_t plan_len, uint64_t seed)
 {
     static const int32_t far[] = {-65537, -65536, 65535, 65536, 0, INT32_MIN, INT32_MAX};
@@ -127,6 +143,8 @@ void same_on_near_events(const int32_t *plan, size_t plan_len, uint64_t seed)
             word += chance / 4 % 2 ? 1 : -1;
         values[i] = word;
     }
+    for (size_t i = 0; i < NEAR_EVENTS; i += 2)
+        put_on_vertex(plan, values + i * n, &seed);
     MUST(same_answers(plan, plan_len, values, length));
     if (n > 1)
         same_answers(plan, plan_len, values, length - 1);

@@ -1,8 +1,9 @@
 /*
- * faulty.c: a compiler with a fault, the proved one with something added: tests/fuzz/check links it in its place, to see that the
- * harness sees each FAULT.
+ * faulty.c: the proved compiler and the proved judging, one of them with something added: tests/fuzz/check links them in the
+ * place of these, to see that the harness sees each FAULT.
  */
 #include "gatecompile.h"
+#include "gatecount.h"
 
 void __real_gate_compile(const uint8_t *table, size_t table_len, int32_t *plan, size_t plan_len, uint64_t out[4]);
 void __wrap_gate_compile(const uint8_t *table, size_t table_len, int32_t *plan, size_t plan_len, uint64_t out[4]);
@@ -40,8 +41,24 @@ void __wrap_gate_compile(const uint8_t *table, size_t table_len, int32_t *plan, 
     case 8: /* the refusal has another place */
         out[GATE_COMPILE_PLACE] += (uint64_t)refused;
         break;
-    default: /* the first box ends one later */
+    case 9: /* the first box ends one later */
         if (!refused && words > 8 && plan[2] == 1)
             plan[8]++;
+    }
+}
+
+void __real_gate_judge_row4(const int32_t *plan, size_t plan_len, const int32_t *event, size_t event_len, uint64_t out[4]);
+void __wrap_gate_judge_row4(const int32_t *plan, size_t plan_len, const int32_t *event, size_t event_len, uint64_t out[4]);
+
+void __wrap_gate_judge_row4(const int32_t *plan, size_t plan_len, const int32_t *event, size_t event_len, uint64_t out[4])
+{
+    uint64_t before = out[GATE_OUT_OUTLINE];
+    __real_gate_judge_row4(plan, plan_len, event, event_len, out);
+    switch (FAULT) {
+    case 10: /* it leaves the outline bits as they were */
+        out[GATE_OUT_OUTLINE] = before;
+        break;
+    case 11: /* it writes behind its row */
+        *(volatile uint64_t *)&out[GATE_JUDGE_OUT] = 0;
     }
 }

@@ -36,12 +36,12 @@ uint64_t next_of(uint64_t *state);
 /* Checking, counting and judging by the proved counter: the answers of the plain one in C. 1 where the plan passes. */
 int same_answers(const int32_t *plan, size_t plan_len, const int32_t *values, size_t values_len);
 
-/* The same on events near the words of a plan that passes. */
+/* The same on events near the words of a plan that passes, and on vertices of its polygons. */
 void same_on_near_events(const int32_t *plan, size_t plan_len, uint64_t seed);
 
 /* The plain counter: bench/src/interpreter.c under other names. */
 void plain_check(const int32_t *plan, size_t plan_len, uint64_t out[2]);
-void plain_judge(const int32_t *plan, size_t plan_len, const int32_t *event, size_t event_len, uint64_t out[3]);
+void plain_judge(const int32_t *plan, size_t plan_len, const int32_t *event, size_t event_len, uint64_t out[4]);
 void plain_count(const int32_t *plan, size_t plan_len, const int32_t *events, size_t events_len, uint64_t out[68]);
 
 #endif

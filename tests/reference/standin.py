@@ -38,8 +38,9 @@ def answer(line):
         return numbers(gates.check_plan(words))
     values = [int(field) for field in rest[2 + size:2 + size + int(rest[1 + size])]]
     if verb == 'judge':
-        number, place, bits = gates.judge(words, values)
-        return '%d %d %s' % (number, place, ''.join(str(bits >> r & 1) for r in range(64)))
+        number, place, bits, outline = gates.judge(words, values)
+        return '%d %d %s %s' % (number, place, *[''.join(str(word >> r & 1) for r in range(64))
+                                                 for word in (bits, outline)])
     number, place, taken, spoilt, counts = gates.count(words, values)
     return numbers([number, place, taken, spoilt] + counts)
 

@@ -1,23 +1,19 @@
 -- Where `out` has its declared length, it is the row afterwards, whatever it held before.
-use mathlib.Core.Path.{_≡_, refl, _∙_}
+use mathlib.Core.Path.{_≡_, refl}
 use mathlib.Core.Bool.{Bool, true, false, cond}
-use mathlib.Core.List.{List, _++_, append-nil}
-use Prim.Native.Nat.{ℕ, _+_, _/_, _%_}
+use mathlib.Core.List.{List}
+use Prim.Native.Nat.{ℕ, _/_, _%_}
 use native.Mathlib.Omega.{arith}
 use lib.Dec.{eqb}
 use lib.IntN.{ℤ}
-use lib.ListN.{length, drop, drop-of-length-le}
-use lib.Seq.{sets, sets-eq}
+use lib.ListN.{length}
+use lib.Seq.{sets}
 use Rattle.plans.specs.Refusals.{Verdict, passed, refused}
 use Rattle.plans.specs.Form.{width, checkOf}
+use Rattle.plans.proofs.RowLaws.{row-whole}
 use Rattle.counter.specs.Counting.{Counting, tallyOf, noTally, countPassed, countOf}
 use Rattle.counter.proofs.TallyLaws.{counts-long}
 use Rattle.gatec.specs.Answers.{checkRow, countRow}
-
-row-whole : (row o : List ℕ) → length o ≡ length row → sets o 0 row ≡ row
-row-whole row o h =
-    let none = drop-of-length-le o {i = 0 + length row} (omega arith) in
-    sets-eq row o 0 (omega arith) ∙ rw none (append-nil row)
 
 pub check-whole : (v : Verdict) (o : List ℕ) → length o ≡ 2 → sets o 0 (checkRow v) ≡ checkRow v
 check-whole v o h = row-whole (checkRow v) o h

@@ -5,6 +5,7 @@ ghost use lib.Seq.{sets};
 ghost use Rattle.counter.specs.Judging.{judgement, judgeOf};
 ghost use Rattle.gatejudge.specs.Answers.{judgeRow};
 use counter::Judged;
+use counter::RegionBits;
 use counter::judging::judge;
 use plans::refusals::number_of;
 use plans::refusals::place_of;
@@ -27,22 +28,28 @@ fn judged_place(a: Judged) -> u64
     }
 }
 
-fn judged_bits(a: Judged) -> u64
-    ensures { λ x. ⌜ x ≡ judgement a .bits ⌝ }
+fn judged_bits(a: Judged) -> RegionBits
+    ensures { λ x. ⌜ (x .members ≡ judgement a .bits) × (x .outline ≡ judgement a .outline) ⌝ }
 {
     match a {
         Judged::Bits(b) => b,
-        Judged::Refused(_) => 0,
+        Judged::Refused(_) => RegionBits {
+            members: 0,
+            outline: 0,
+        },
     }
 }
 
-// out: number, place, 64 bits.
+// out: number, place, 64 bits of the members, 64 outline bits. A longer row has another symbol, its length in the name, so that what was built for a
+// shorter one does not link.
 #[no_mangle]
-pub extern "C" fn gate_judge(plan: &[i32], event: &[i32], out: &mut [u64; 3])
+pub extern "C" fn gate_judge_row4(plan: &[i32], event: &[i32], out: &mut [u64; 4])
     ensures { λ _. ⌜ now (out .exit) ≡ sets (now (out .entry)) 0 (judgeRow (judgeOf (now (plan .entry)) (now (event .entry)))) ⌝ }
 {
     let a = judge(plan, event);
     out[0] = judged_number(a);
     out[1] = judged_place(a);
-    out[2] = judged_bits(a);
+    let bits = judged_bits(a);
+    out[2] = bits.members;
+    out[3] = bits.outline;
 }

@@ -90,7 +90,7 @@ module _ (t u : List Gate) (p : List·Permᴰ t u) (ok : Rules t) (n : ℕ) (som
   ok-u : Rules u
   ok-u = moved-rules t u p ok
 
-  member-by-name : (e : Event) → length e ≡ n → (k : Name) → k ∈ names rs → hasBit (members (planWords n rs) e) (numberOf rs k) ≡ member t e k
+  pub member-by-name : (e : Event) → length e ≡ n → (k : Name) → k ∈ names rs → hasBit (members (planWords n rs) e) (numberOf rs k) ≡ member t e k
   unfolding members
   member-by-name e l k m = go (passed-or-failed (taken e))
     where

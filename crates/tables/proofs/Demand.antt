@@ -1,8 +1,8 @@
 -- Demand 3, whole: one theorem about a table, an order of its gate lines, a slice and a list of events together. Its claim stands in specs/Demand.
 use mathlib.Core.Path.{_≡_, refl, sym, ap, _∙_}
 use mathlib.Core.Option.{Option, none, some}
-use mathlib.Core.List.{List, Memᴰ·append-left, List·Memᴰ·head as here, List·Permᴰ}
-use Prim.Native.Nat.{ℕ, _%_, _<_, _≤_}
+use mathlib.Core.List.{List, Memᴰ·append-left, List·Memᴰ·head as here}
+use Prim.Native.Nat.{ℕ, _%_}
 use native.Mathlib.Omega.{arith}
 use lib.IntN.{ℤ}
 use lib.ListN.{length, getD}
@@ -13,7 +13,7 @@ use Rattle.counter.specs.Counting.{eventAt, takenAt, spoiltAt, tallyOf, Countin
 use Rattle.counter.specs.declared.Tally.{Tally}
 use Rattle.gates.specs.Gate.{Name, Quadrant, quad, Gate, Region, regions}
 use Rattle.gates.proofs.GoodGate.{GoodBody}
-use Rattle.tables.specs.Table.{_∈_, nthRegion, names, numberOf, parentNames, bodyReferences, sumOf}
+use Rattle.tables.specs.Table.{_∈_, names, numberOf, parentNames, bodyReferences, sumOf}
 use Rattle.tables.specs.Head.{gates, LineOrder, reordered}
 use Rattle.tables.specs.Members.{member}
 use Rattle.tables.specs.Steps.{planWords}
@@ -22,13 +22,12 @@ use Rattle.tables.specs.Compile.{planOf, Compiling, compileOf}
 use Rattle.tables.specs.TableCount.{lent, countTableOf}
 use Rattle.tables.specs.Demand.{dims, eventCount, countOfName, countOfParent, Demand3, KeepsDemand3}
 use Rattle.tables.proofs.ListLaws.{map-in}
-use Rattle.tables.proofs.NameLaws.{region-of, number-at}
 use Rattle.tables.proofs.SumLaws.{sum-same}
-use Rattle.tables.proofs.GateLaws.{orderly, moved-region, moved-name}
-use Rattle.tables.proofs.Acceptance.{Accepted, passed-accepted, accepted-passed}
-use Rattle.tables.proofs.ReorderLaws.{same-dimensions, gates-moved, reordered-accepted}
+use Rattle.tables.proofs.GateLaws.{moved-name}
+use Rattle.tables.proofs.Acceptance.{accepted-passed}
+use Rattle.tables.proofs.OrderedAgain.{OrderedAgain, ordered-again}
 use Rattle.tables.proofs.CountLaws.{plan-width, counted, tally-taken, tally-spoilt, count-by-name, inParentOf, quadrant-name, quadrants-add-up}
-use Rattle.tables.proofs.CompileLaws.{compiled-plan, head-width, gates-good, plan-passes}
+use Rattle.tables.proofs.CompileLaws.{compiled-plan, gates-good, plan-passes}
 use Rattle.tables.proofs.TableCountLaws.{complete-counted}
 
 -- ---- the steps, for one text, order, slice and list
@@ -56,34 +55,18 @@ module _ (text : List ℕ) (accepted : tableVerdict 4096 text ≡ passed) (ks : 
   u = gates again
 
   -- both texts are accepted, with the same dimensions and, in another order, the same gates
-  a : Accepted 4096 text
-  a = passed-accepted 4096 text accepted
-
-  b : Accepted 4096 again
-  b = reordered-accepted 4096 text a ks order
-
-  some-values : 1 ≤ n
-  some-values = head-width text (a .head) .0
-
-  same-n : dims again ≡ n
-  same-n = ap length (same-dimensions 4096 text a ks order)
-
-  moved : List·Permᴰ t u
-  moved = gates-moved 4096 text a ks order
+  both : OrderedAgain text again
+  both = ordered-again text accepted ks order
 
   -- the words lent are the plan, which passes
   verdict-again : tableVerdict (length slice) again ≡ passed
-  verdict-again = rw room (accepted-passed 4096 again b)
+  verdict-again = rw room (accepted-passed 4096 again (both .second))
 
   is-plan : lent (into .words) (into .slice) ≡ planOf again
-  is-plan = let f = b .plan-fits in compiled-plan again slice verdict-again (omega arith)
-
-  is-words : planOf again ≡ planWords n (regions u)
-  unfolding planOf
-  is-words = rw same-n
+  is-plan = let f = both .second .plan-fits in compiled-plan again slice verdict-again (omega arith)
 
   is-passing : checkOf (lent (into .words) (into .slice)) ≡ passed
-  is-passing = rw is-plan (plan-passes 4096 again b)
+  is-passing = rw is-plan (plan-passes 4096 again (both .second))
 
   -- the tally is that of the plan's words
   is-counting : countOf (lent (into .words) (into .slice)) values
@@ -91,29 +74,17 @@ module _ (text : List ℕ) (accepted : tableVerdict 4096 text ≡ passed) (ks : 
   is-counting =
       let p = planWords n (regions u) in
       let w = plan-width n (regions u) in
-      let c : checkOf p ≡ passed = rw (← is-words, ← is-plan) is-passing in
+      let c : checkOf p ≡ passed = rw (← (both .is-words), ← is-plan) is-passing in
       let k : length values % width p ≡ 0 = rw w complete in
-      rw (is-plan, is-words) (counted p values c k ∙ rw w)
+      rw (is-plan, both .is-words) (counted p values c k ∙ rw w)
 
   is-tally : tally ≡ tallyOf (planWords n (regions u)) values (eventCount text values)
   is-tally = ap (λ (c : Counting). c .tally) is-counting
 
-  good-again : (g : Gate) → g ∈ u → GoodBody n (g .body)
-  good-again g m = rw (← same-n) (gates-good 4096 again b g m)
-
-  found-is : (r : Region) → r ∈ regions t → (numberOf (regions u) (r .name) < 64) × (nthRegion (regions u) (numberOf (regions u) (r .name)) ≡ r)
-  found-is r m =
-      let few = b .rules .few in
-      let i = region-of (regions u) (moved-region moved m) in
-      let l : i .0 < length (regions u) = i .1 in
-      let e : numberOf (regions u) (r .name) ≡ i .0 =
-      ap (λ (x : Region). numberOf (regions u) (x .name)) (sym (i .2)) ∙ number-at (regions u) (orderly u (b .rules) .distinct) (i .0) (i .1) in
-      (omega arith, ap (nthRegion (regions u)) e ∙ i .2)
-
   count-is : (k : Name) → k ∈ names (regions t) → countOfName again tally k ≡ howMany (λ j. member t (eventAt n values j) k) (eventCount text values)
   count-is k m =
       ap (λ (y : Tally). getD (y .counts) (numberOf (regions u) k) 0) is-tally
-      ∙ count-by-name t u moved (a .rules) n some-values good-again values k (moved-name moved m)
+      ∙ count-by-name t u (both .moved) (both .first .rules) n (both .some-values) (both .good-gates) values k (moved-name (both .moved) m)
 
   taken-is : tally .taken ≡ howMany (takenAt n values) (eventCount text values)
   taken-is = ap (λ (y : Tally). y .taken) is-tally ∙ tally-taken n (regions u) values (eventCount text values)
@@ -130,19 +101,19 @@ module _ (text : List ℕ) (accepted : tableVerdict 4096 text ≡ passed) (ks : 
   quadrants-are : (g : Gate) → g ∈ t → (qs : List Quadrant) → g .body ≡ quad qs
       → sumOf (λ (q : Quadrant). countOfName again tally (q .name)) qs ≡ countOfParent again tally (g .parent)
   quadrants-are g m qs e =
-      let good : GoodBody n (quad qs) = rw e at (gates-good 4096 text a g m) in
-      sum-same _ _ qs (λ q k. count-is (q .name) (quadrant-name t (a .rules) n some-values g m qs e good q k))
-      ∙ quadrants-add-up t (a .rules) n some-values g m qs e good values
-      ∙ parent-is (g .parent) (λ k i. a .rules .alive g m k (Memᴰ·append-left (bodyReferences (g .body)) i))
+      let good : GoodBody n (quad qs) = rw e at (gates-good 4096 text (both .first) g m) in
+      sum-same _ _ qs (λ q k. count-is (q .name) (quadrant-name t (both .first .rules) n (both .some-values) g m qs e good q k))
+      ∙ quadrants-add-up t (both .first .rules) n (both .some-values) g m qs e good values
+      ∙ parent-is (g .parent) (λ k i. both .first .rules .alive g m k (Memᴰ·append-left (bodyReferences (g .body)) i))
 
   whole : Demand3 text again values (record { verdict = passed; words = into .words; regions = into .regions; tally = tally; slice = into .slice })
   whole = record {
-    compiles = accepted-passed 4096 again b;
+    compiles = accepted-passed 4096 again (both .second);
     unrefused = refl;
     its-plan = is-plan;
     passing = is-passing;
     counting = is-counting ∙ ap (λ (y : Tally). record { verdict = passed; tally = y }) (sym is-tally);
-    found = found-is;
+    found = both .found;
     by-name = λ r m. count-is (r .name) (map-in (λ (x : Region). x .name) m);
     all-taken = taken-is;
     all-spoilt = spoilt-is;
@@ -150,7 +121,7 @@ module _ (text : List ℕ) (accepted : tableVerdict 4096 text ≡ passed) (ks : 
   }
 
   is-counted : countTableOf again slice values ≡ record { verdict = passed; words = into .words; regions = into .regions; tally = tally; slice = into .slice }
-  is-counted = complete-counted again slice values verdict-again (rw same-n complete)
+  is-counted = complete-counted again slice values verdict-again (rw (both .same-n) complete)
 
   kept : Demand3 text again values (countTableOf again slice values)
   kept = rw is-counted whole

@@ -1,5 +1,5 @@
 -- The marked cases of 01, as one theorem over a list of them about the definitions: those of the worked example from its bytes, then those of shapes,
--- matrices and the plan by itself (counter, proofs/MarkedCases).
+-- matrices and the plan by itself (counter, proofs/MarkedCases). Outlines, of 02's first request, are another list.
 use mathlib.Core.Path.{refl}
 use mathlib.Core.Bool.{Bool, true, false, _&&_, cond}
 use mathlib.Core.List.{List, [], _∷_, _++_, map}
@@ -8,11 +8,12 @@ use lib.Dec.{eqb}
 use lib.IntN.{ℤ, pos}
 use lib.ListN.{replicate, take}
 use Rattle.integers.specs.Equality.{eqZ}
-use Rattle.counter.proofs.MarkedCases.{Case, is, Hold, examplePlan, markedCases, marked-cases as shape-cases}
+use Rattle.counter.proofs.MarkedCases.{Case, is, Hold, hold-both, examplePlan, markedCases, marked-cases as shape-cases, outlineCases, outline-cases as position-cases}
 use Rattle.text.specs.Bytes.{bytes, same}
 use Rattle.text.specs.Lines.{unlines}
 use Rattle.tables.specs.Head.{gates}
 use Rattle.tables.specs.Members.{member}
+use Rattle.tables.specs.Outlines.{outlineMember}
 use Rattle.tables.specs.TableCount.{TableCounting, lent, countTableOf}
 use Rattle.plans.specs.Bits as Bits
 use Rattle.plans.specs.Form as Form
@@ -23,6 +24,7 @@ use Rattle.counter.specs.Ellipse as Ellipse
 use Rattle.counter.specs.Judging as Judging
 use Rattle.counter.specs.Members as Placing
 use Rattle.counter.specs.Counting as Counting
+use Rattle.counter.specs.Positions as Positions
 use Rattle.counter.specs.Polygon as Polygon
 use Rattle.text.specs.Bytes as Bytes
 use Rattle.text.specs.Lines as Lines
@@ -31,6 +33,7 @@ use Rattle.text.specs.Numbers as Numbers
 use Rattle.text.specs.Output as Output
 use Rattle.gates.specs.Kinds as Kinds
 use Rattle.gates.specs.Meaning as Meaning
+use Rattle.gates.specs.Outlines as LineOutlines
 use Rattle.gates.specs.Encoding as Encoding
 use Rattle.gates.specs.Quads as Quads
 use Rattle.gates.specs.Refusal as Refusal
@@ -39,6 +42,7 @@ use Rattle.gates.specs.Tiling as Tiling
 use Rattle.tables.specs.Compile as Compile
 use Rattle.tables.specs.Head as Head
 use Rattle.tables.specs.Members as Members
+use Rattle.tables.specs.Outlines as TableOutlines
 use Rattle.tables.specs.Reaching as Reaching
 use Rattle.tables.specs.Refusals as Refusals
 use Rattle.tables.specs.Steps as Steps
@@ -89,8 +93,26 @@ tableCases =
     ∷ is (inGate (bytes "Ring") (pos 400) (pos 376)) false
     ∷ []
 
-table-cases : Hold tableCases
-unfolding tableCases sameWords answer inGate example exampleEvents Bits.hasBit Bits.withBit Form.spans Form.spansBy Form.matrixGood Indices.all Indices.any
+-- on the outline by its own lines: the rim of Ring, no other region
+onGate : List ℕ → ℤ → ℤ → Bool
+onGate name x y = outlineMember (gates example) (x ∷ y ∷ []) name
+
+pub tableOutlineCases : List Case
+tableOutlineCases =
+    is (onGate (bytes "Ring") (pos 600) (pos 200)) true
+    ∷ is (onGate (bytes "Ring") (pos 400) (pos 375)) true
+    ∷ is (onGate (bytes "Ring") (pos 599) (pos 200)) false
+    ∷ is (onGate (bytes "Ring") (pos 400) (pos 376)) false
+    ∷ is (onGate (bytes "Live") (pos 400) (pos 375)) false
+    ∷ is (onGate (bytes "Hi") (pos 400) (pos 375)) false
+    ∷ is (onGate (bytes "Ring") (pos 344) (pos 368)) true
+    ∷ is (inGate (bytes "Both") (pos 344) (pos 368)) true
+    ∷ is (onGate (bytes "Both") (pos 344) (pos 368)) false
+    ∷ []
+
+table-cases : Hold tableCases × Hold tableOutlineCases
+unfolding tableCases tableOutlineCases sameWords answer inGate onGate example exampleEvents Bits.hasBit Bits.withBit Form.spans Form.spansBy
+    Form.matrixGood Indices.all Indices.any
     Indices.howMany Indices.firstBad Words.word Range.inRange Words.onScale Ellipse.inEllipse Judging.valueGood Judging.taken Polygon.side Polygon.between
     Polygon.onEdge Polygon.turn Polygon.crossing Polygon.edgesFrom Polygon.edges Polygon.onSome Polygon.crossings Polygon.inPolygon Bytes.same Lines.fields
     Lines.lines Lines.endsInLF Names.isName Numbers.isNegative Numbers.unsigned Numbers.isPositive Numbers.isNumber Numbers.numberValue Numbers.clamp
@@ -110,11 +132,14 @@ unfolding tableCases sameWords answer inGate example exampleEvents Bits.hasBit B
     Form.lowestBad Form.formOf Form.checkOf Placing.valueIn Placing.tripleIn Placing.boxIn Placing.polygonIn Placing.ellipseIn Placing.operandIn
     Placing.parentIn Placing.stepIn Placing.settled Placing.bitsOf Judging.firstSpoilt Judging.members Counting.eventAt Counting.takenAt Counting.spoiltAt
     Counting.memberAt Counting.listFrom Counting.inRegion Counting.tallyOf Counting.countPassed Counting.countOf TableCount.countTableOf
-table-cases = (refl, (refl, (refl, (refl, (refl, (refl, (refl, tt)))))))
-
-hold-both : (a b : List Case) → Hold a → Hold b → Hold (a ++ b)
-hold-both [] b h k = k
-hold-both (c ∷ a) b h k = (h .0, hold-both a b (h .1) k)
+    Meaning.inTriple Meaning.inRect Meaning.inQuadrant Positions.ellipsePosition LineOutlines.onEllip TableOutlines.outlineMember
+table-cases = (
+  (refl, (refl, (refl, (refl, (refl, (refl, (refl, tt))))))),
+  (refl, (refl, (refl, (refl, (refl, (refl, (refl, (refl, (refl, tt))))))))),
+)
 
 pub marked-cases : Hold (tableCases ++ markedCases)
-marked-cases = hold-both tableCases markedCases table-cases shape-cases
+marked-cases = hold-both tableCases markedCases (table-cases .0) shape-cases
+
+pub outline-cases : Hold (tableOutlineCases ++ outlineCases)
+outline-cases = hold-both tableOutlineCases outlineCases (table-cases .1) position-cases

@@ -1,4 +1,4 @@
--- The laws of tables, and demand 3.
+-- The laws of tables, demand 3, and judging by a table's plan.
 pub mod ListLaws
 pub mod NameLaws
 pub mod ReachingLaws
@@ -19,5 +19,7 @@ pub mod CountLaws
 pub mod CompileLaws
 pub mod TableCountLaws
 pub mod LoopLaws
+pub mod OrderedAgain
+pub mod JudgingLaws
 pub mod Examples
 pub mod Demand

@@ -1,17 +1,17 @@
 -- `member` obeys 01's equations on every table whose regions are orderly, and nothing else does.
 use mathlib.Core.Path.{_≡_, refl, sym, _∙_}
-use mathlib.Core.Bool.{Bool, true, false, _||_}
+use mathlib.Core.Bool.{Bool, true, false, _&&_, _||_}
 use mathlib.Core.Option.{Option, none, some}
 use mathlib.Core.List.{List, [], _∷_, map, List·Memᴰ·head as here, List·Memᴰ·tail as there, Memᴰ·cast, Memᴰ·append-left, Memᴰ·append-right}
 use Prim.Native.Nat.{ℕ, zero, suc, _≤_, _<_}
 use native.Mathlib.Omega.{arith}
 use lib.ListN.{length}
-use Rattle.text.specs.Bytes.{every}
+use Rattle.text.specs.Bytes.{same, every}
 use Rattle.text.proofs.BytesLaws.{same-refl}
 use Rattle.gates.specs.Gate.{Name, Event, Operand, Shape, leaf, and-of, or-of, not-of, Region}
 use Rattle.tables.specs.Table.{_∈_, someOf, nthRegion, names, numberOf, parentNames, operandNames, references}
 use Rattle.tables.specs.Further.Rules.{Distinct}
-use Rattle.tables.specs.Members.{inOperand, inShape, inParent, belongs, round, rounds}
+use Rattle.tables.specs.Members.{inOperand, inShape, inParent, belongs, rounds}
 use Rattle.tables.specs.Further.Obeying.{Obeys}
 use Rattle.tables.proofs.ListLaws.{map-in}
 use Rattle.tables.proofs.NameLaws.{same-not, region-in, region-of, number-name, in-number}
@@ -45,10 +45,10 @@ module _ (e : Event) (m m′ : Name → Bool) where
         same-parent (r .parent) (λ n k. h n (Memᴰ·append-left (operandNames (r .shape)) k)),
       )
 
--- ---- a round of the equations, at a region of the table
+-- ---- what is asked of the region of a name, at a region of the table
 
-module _ (e : Event) (m : Name → Bool) where
-  absent : (n : Name) (rs : List Region) → (n ∈ names rs → ⊥) → round rs e m n ≡ false
+module _ (test : Region → Bool) where
+  absent : (n : Name) (rs : List Region) → (n ∈ names rs → ⊥) → someOf (λ (r : Region). same n (r .name) && test r) rs ≡ false
   absent n [] h = refl
   absent n (r ∷ rs) h = rw (same-not n (r .name) (λ q. h (here q))) (absent n rs (λ k. h (there k)))
 
@@ -56,8 +56,9 @@ module _ (e : Event) (m : Name → Bool) where
   or-false true = refl
   or-false false = refl
 
-  at-region : {r : Region} {rs : List Region} → Distinct (names rs) → r ∈ rs → round rs e m (r .name) ≡ belongs m e r
-  at-region {r} d (here {x = x} {xs = rs} q) = rw q (rw (same-refl (x .name), absent (x .name) rs (d .0)) (or-false (belongs m e x)))
+  pub at-region : {r : Region} {rs : List Region} → Distinct (names rs) → r ∈ rs
+      → someOf (λ (x : Region). same (r .name) (x .name) && test x) rs ≡ test r
+  at-region {r} d (here {x = x} {xs = rs} q) = rw q (rw (same-refl (x .name), absent (x .name) rs (d .0)) (or-false (test x)))
   at-region {r} d (there {x = x} {xs = rs} k) =
       rw (same-not (r .name) (x .name) (λ q. d .0 (Memᴰ·cast (sym q) (map-in (λ (y : Region). y .name) k)))) (at-region (d .1) k)
 
@@ -79,9 +80,9 @@ module _ (rs : List Region) (ok : Orderly rs) (e : Event) where
   settle k r l h zero j a b = absurd (omega arith)
   settle k r l h (suc i) zero a b = absurd (omega arith)
   settle k r l h (suc i) (suc j) a b =
-      at-region e (rounds i rs e) (ok .distinct) (region-in rs r l)
+      at-region (belongs (rounds i rs e) e) (ok .distinct) (region-in rs r l)
       ∙ same-value e (rounds i rs e) (rounds j rs e) (nthRegion rs r) (λ n q. let p = referred r l n q in rw p (h n q i j (omega arith) (omega arith)))
-      ∙ sym (at-region e (rounds j rs e) (ok .distinct) (region-in rs r l))
+      ∙ sym (at-region (belongs (rounds j rs e) e) (ok .distinct) (region-in rs r l))
 
   -- what the rounds come to obeys the equations
   pub rounds-obey : Obeys rs e (rounds (length rs) rs e)
@@ -89,7 +90,8 @@ module _ (rs : List Region) (ok : Orderly rs) (e : Event) where
       let x = region-of rs m in
       let s = along-order rs ok Settled (λ k y q i j a b. q i j (omega arith) (omega arith)) settle (x .0) (x .1) in
       rw (← (x .2))
-      (s (length rs) (suc (length rs)) (omega arith) (omega arith) ∙ at-region e (rounds (length rs) rs e) (ok .distinct) (region-in rs (x .0) (x .1)))
+      (s (length rs) (suc (length rs)) (omega arith) (omega arith)
+      ∙ at-region (belongs (rounds (length rs) rs e) e) (ok .distinct) (region-in rs (x .0) (x .1)))
 
   -- two that obey the equations agree
   pub obey-agree : (m m′ : Name → Bool) → Obeys rs e m → Obeys rs e m′ → (r : Region) → r ∈ rs → m (r .name) ≡ m′ (r .name)

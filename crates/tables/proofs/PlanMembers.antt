@@ -1,4 +1,4 @@
--- The bits that the plan of a table sets for an event are those of its members.
+-- The bits that the plan of a table sets for an event are those of its members, and the outline bits those of the members on an outline.
 use mathlib.Core.Path.{_≡_, refl, sym, ap, ap₂, _∙_}
 use mathlib.Core.Bool.{Bool, true, false, not, _&&_, cond}
 use mathlib.Core.Logic.{_⊎_, inl, inr, ⊎-elim}
@@ -18,6 +18,7 @@ use Rattle.plans.specs.Form.{regionAt, nextAt, stepCount}
 use Rattle.plans.proofs.BitLaws.{has-with-same, has-with-other, no-bit}
 use Rattle.plans.proofs.IndexLaws.{all-of, all-stop, any-stop}
 use Rattle.counter.specs.Members.{operandIn, shapeIn, parentIn, stepIn, settled, bitsOf}
+use Rattle.counter.specs.Outlines.{shapeOn, stepOn, outlineFrom, outlineOf}
 use Rattle.counter.specs.Judging.{taken}
 use Rattle.text.specs.Bytes.{every}
 use Rattle.text.proofs.TestLaws.{true≢false, passed-or-failed}
@@ -25,6 +26,7 @@ use Rattle.gates.specs.Gate.{Name, Event, Operand, Shape, leaf, and-of, or-of, 
 use Rattle.gates.proofs.GoodGate.{GoodShape}
 use Rattle.tables.specs.Table.{_∈_, someOf, nthRegion, numberOf, parentNames, operandNames, references}
 use Rattle.tables.specs.Members.{inOperand, inShape, inParent}
+use Rattle.tables.specs.Outlines.{onShape}
 use Rattle.tables.specs.Further.Obeying.{Obeys}
 use Rattle.tables.specs.Steps.{isWritten, shapeKind, referenceWord, bodyWords, parentWord, stepWords, stepsWords, order, planWords}
 use Rattle.tables.proofs.ListLaws.{every-fails, every-at, some-found, some-at, at-in, index-of, map-in}
@@ -75,6 +77,42 @@ settled-on : (left : ℕ) (p : List ℤ) (e : Event) (bits at region next : ℕ)
 unfolding settled
 settled-on left p e bits at region next v a b c = rw (a, b, c)
 
+outline-on : (left : ℕ) (p : List ℤ) (e : Event) (bits outline at region next : ℕ) (v o : Bool) → regionAt p at ≡ region → nextAt p at ≡ next
+    → stepIn p e bits at ≡ v → stepOn p e bits at ≡ o
+    → outlineFrom (suc left) p e bits outline at ≡ outlineFrom left p e (cond v (withBit bits region) bits) (cond o (withBit outline region) outline) next
+unfolding outlineFrom
+outline-on left p e bits outline at region next v o a b c d = rw (a, b, c, d)
+
+-- the bits of the regions that are written are as a test of the region says, and no other bit is set
+record Right (test : ℕ → Bool) (k w bits : ℕ) : Type 0 where
+  right : (r : ℕ) → r < k → hasBit w r ≡ true → hasBit bits r ≡ test r
+  unset : (r : ℕ) → hasBit w r ≡ false → hasBit bits r ≡ false
+
+-- where nothing is written
+right-none : (test : ℕ → Bool) (k : ℕ) → Right test k 0 0
+right-none test k = record { right = λ i _ b. absurd (true≢false (sym b ∙ no-bit i)); unset = λ i b. b }
+
+-- one region more
+module _ (test : ℕ → Bool) (k w bits : ℕ) (sets : Right test k w bits) (r : ℕ) (small : r < 64) (new : hasBit w r ≡ false) where
+  other-bit : (v : Bool) (s : ℕ) → (s ≡ r → ⊥) → hasBit (cond v (withBit bits r) bits) s ≡ hasBit bits s
+  other-bit true s ne = has-with-other bits r small s ne
+  other-bit false s ne = refl
+
+  own-bit : (v : Bool) → hasBit (cond v (withBit bits r) bits) r ≡ v
+  own-bit true = has-with-same bits r small
+  own-bit false = sets .unset r new
+
+  right-next : Right test k (withBit w r) (cond (test r) (withBit bits r) bits)
+  right-next = record { right = λ s l b. right′ s l b (passed-or-failed (eqb s r)); unset = λ s b. unset′ s b (passed-or-failed (eqb s r)) }
+    where
+      right′ : (s : ℕ) → s < k → hasBit (withBit w r) s ≡ true → (eqb s r ≡ true) ⊎ (eqb s r ≡ false) → hasBit (cond (test r) (withBit bits r) bits) s ≡ test s
+      right′ s l b (inl t) = let q = eqb-true s r t in rw q (own-bit (test r))
+      right′ s l b (inr t) = other-bit (test r) s (eqb-false s r t) ∙ sets .right s l (sym (has-with-other w r small s (eqb-false s r t)) ∙ b)
+
+      unset′ : (s : ℕ) → hasBit (withBit w r) s ≡ false → (eqb s r ≡ true) ⊎ (eqb s r ≡ false) → hasBit (cond (test r) (withBit bits r) bits) s ≡ false
+      unset′ s b (inl t) = let q = eqb-true s r t in absurd (true≢false (sym (has-with-same w r small) ∙ (rw q at b)))
+      unset′ s b (inr t) = other-bit (test r) s (eqb-false s r t) ∙ sets .unset s (sym (has-with-other w r small s (eqb-false s r t)) ∙ b)
+
 module _ (rs : List Region) (ok : Orderly rs) (n : ℕ) (good : (r : Region) → r ∈ rs → GoodShape n (r .shape))
     (e : Event) (long : length e ≡ n) (take-in : taken e ≡ true) (m : Name → Bool) (obeys : Obeys rs e m) where
   -- ---- a step, where the bits of its references are right
@@ -103,13 +141,21 @@ module _ (rs : List Region) (ok : Orderly rs) (n : ℕ) (good : (r : Region) →
     parent-right none h = refl
     parent-right (some k) h = h k (here refl)
 
-  -- ---- the bits of what is written are right, and no other bit is set
+  shape-on : (s : Shape) → GoodShape n s → shapeOn (shapeKind s) e (bodyWords rs s) ≡ onShape e s
+  shape-on (leaf l) g = g .outline-faithful e
+  shape-on (and-of os) g = refl
+  shape-on (or-of os) g = refl
+  shape-on (not-of o) g = refl
 
-  record Right (w bits : ℕ) : Type 0 where
-    right : (r : ℕ) → r < length rs → hasBit w r ≡ true → hasBit bits r ≡ m (nthRegion rs r .name)
-    unset : (r : ℕ) → hasBit w r ≡ false → hasBit bits r ≡ false
+  -- ---- the bits of what is written: region r is as the equations say of its name, and for the outline its own shape too
 
-  module _ (w bits : ℕ) (sets : Right w bits) (r : ℕ) (h : r < length rs) (new : hasBit w r ≡ false)
+  abbrev memberOf : ℕ → Bool
+  memberOf r = m (nthRegion rs r .name)
+
+  abbrev outlineMemberOf : ℕ → Bool
+  outlineMemberOf r = m (nthRegion rs r .name) && onShape e (nthRegion rs r .shape)
+
+  module _ (w bits : ℕ) (sets : Right memberOf (length rs) w bits) (r : ℕ) (h : r < length rs)
       (referred : (k : Name) → k ∈ references (nthRegion rs r) → isWritten rs w k ≡ true) where
     abbrev x : Region
     x = nthRegion rs r
@@ -123,7 +169,7 @@ module _ (rs : List Region) (ok : Orderly rs) (n : ℕ) (good : (r : Region) →
         let l = in-number rs k (ok .live x (region-in rs r h) k i) in
         sets .right (numberOf rs k) l (referred k i) ∙ ap m (sym (number-name rs k l))
 
-    step-right : (before rest : List ℤ) → stepIn (before ++ (stepWords rs r ++ rest)) e bits (length before) ≡ m (x .name)
+    step-right : (before rest : List ℤ) → stepIn (before ++ (stepWords rs r ++ rest)) e bits (length before) ≡ memberOf r
     unfolding stepIn
     step-right before rest =
         rw (parent-is rs r before rest, kind-is rs r before rest, body-is rs r before rest)
@@ -131,49 +177,58 @@ module _ (rs : List Region) (ok : Orderly rs) (n : ℕ) (good : (r : Region) →
         (shape-right bits (x .shape) (good x (region-in rs r h)) (λ k i. reference-right k (Memᴰ·append-right (parentNames (x .parent)) i)))
         ∙ and-swap (inParent m (x .parent)) (inShape m e (x .shape)) ∙ sym (obeys x (region-in rs r h)))
 
-    -- the bits after the step
-    other-bit : (v : Bool) (s : ℕ) → (s ≡ r → ⊥) → hasBit (cond v (withBit bits r) bits) s ≡ hasBit bits s
-    other-bit true s ne = has-with-other bits r small s ne
-    other-bit false s ne = refl
-
-    own-bit : (v : Bool) → hasBit (cond v (withBit bits r) bits) r ≡ v
-    own-bit true = has-with-same bits r small
-    own-bit false = sets .unset r new
-
-    next-right : Right (withBit w r) (cond (m (x .name)) (withBit bits r) bits)
-    next-right = record { right = λ s l b. right′ s l b (passed-or-failed (eqb s r)); unset = λ s b. unset′ s b (passed-or-failed (eqb s r)) }
-      where
-        right′ : (s : ℕ) → s < length rs → hasBit (withBit w r) s ≡ true → (eqb s r ≡ true) ⊎ (eqb s r ≡ false)
-            → hasBit (cond (m (x .name)) (withBit bits r) bits) s ≡ m (nthRegion rs s .name)
-        right′ s l b (inl t) = let q = eqb-true s r t in rw q (own-bit (m (x .name)))
-        right′ s l b (inr t) = other-bit (m (x .name)) s (eqb-false s r t) ∙ sets .right s l (sym (has-with-other w r small s (eqb-false s r t)) ∙ b)
-
-        unset′ : (s : ℕ) → hasBit (withBit w r) s ≡ false → (eqb s r ≡ true) ⊎ (eqb s r ≡ false) → hasBit (cond (m (x .name)) (withBit bits r) bits) s ≡ false
-        unset′ s b (inl t) = let q = eqb-true s r t in absurd (true≢false (sym (has-with-same w r small) ∙ (rw q at b)))
-        unset′ s b (inr t) = other-bit (m (x .name)) s (eqb-false s r t) ∙ sets .unset s (sym (has-with-other w r small s (eqb-false s r t)) ∙ b)
+    step-on : (before rest : List ℤ) → stepOn (before ++ (stepWords rs r ++ rest)) e bits (length before) ≡ outlineMemberOf r
+    unfolding stepOn
+    step-on before rest =
+        rw (step-right before rest, kind-is rs r before rest, body-is rs r before rest, shape-on (x .shape) (good x (region-in rs r h)))
 
   -- ---- all steps
 
-  steps-right : (o : List ℕ) (before : List ℤ) (w bits : ℕ) → Ordered rs w o → Right w bits
-      → Right (after rs w o) (settled (length o) (before ++ stepsWords rs o) e bits (length before))
+  steps-right : (o : List ℕ) (before : List ℤ) (w bits : ℕ) → Ordered rs w o → Right memberOf (length rs) w bits
+      → Right memberOf (length rs) (after rs w o) (settled (length o) (before ++ stepsWords rs o) e bits (length before))
   unfolding settled
   steps-right [] before w bits h s = s
   steps-right (r ∷ o) before w bits h s =
       rw (
-        settled-on (length o) (before ++ (stepWords rs r ++ stepsWords rs o)) e bits (length before) r (length (before ++ stepWords rs r))
-            (m (nthRegion rs r .name))
+        settled-on (length o) (before ++ (stepWords rs r ++ stepsWords rs o)) e bits (length before) r (length (before ++ stepWords rs r)) (memberOf r)
             (region-is rs r before (stepsWords rs o)) (next-is rs r before (stepsWords rs o))
-            (step-right w bits s r (h .0) (h .1) (h .2) before (stepsWords rs o)),
+            (step-right w bits s r (h .0) (h .2) before (stepsWords rs o)),
         ← (append-assoc before (stepWords rs r) (stepsWords rs o)),
       )
-      (steps-right o (before ++ stepWords rs r) (withBit w r) (cond (m (nthRegion rs r .name)) (withBit bits r) bits) (h .3)
-      (next-right w bits s r (h .0) (h .1) (h .2)))
+      (steps-right o (before ++ stepWords rs r) (withBit w r) (cond (memberOf r) (withBit bits r) bits) (h .3)
+      (right-next memberOf (length rs) w bits s r (small w bits s r (h .0) (h .2)) (h .1)))
+
+  outlines-right : (o : List ℕ) (before : List ℤ) (w bits outline : ℕ) → Ordered rs w o
+      → Right memberOf (length rs) w bits → Right outlineMemberOf (length rs) w outline
+      → Right outlineMemberOf (length rs) (after rs w o) (outlineFrom (length o) (before ++ stepsWords rs o) e bits outline (length before))
+  unfolding outlineFrom
+  outlines-right [] before w bits outline h s t = t
+  outlines-right (r ∷ o) before w bits outline h s t =
+      let few = small w bits s r (h .0) (h .2) in
+      rw (
+        outline-on (length o) (before ++ (stepWords rs r ++ stepsWords rs o)) e bits outline (length before) r (length (before ++ stepWords rs r))
+            (memberOf r) (outlineMemberOf r)
+            (region-is rs r before (stepsWords rs o)) (next-is rs r before (stepsWords rs o))
+            (step-right w bits s r (h .0) (h .2) before (stepsWords rs o)) (step-on w bits s r (h .0) (h .2) before (stepsWords rs o)),
+        ← (append-assoc before (stepWords rs r) (stepsWords rs o)),
+      )
+      (outlines-right o (before ++ stepWords rs r) (withBit w r) (cond (memberOf r) (withBit bits r) bits)
+      (cond (outlineMemberOf r) (withBit outline r) outline) (h .3)
+      (right-next memberOf (length rs) w bits s r few (h .1)) (right-next outlineMemberOf (length rs) w outline t r few (h .1)))
 
   -- the plan's bit of region r is what the equations give its name
   pub bits-right : (r : ℕ) → r < length rs → hasBit (bitsOf (planWords n rs) e) r ≡ m (nthRegion rs r .name)
   unfolding bitsOf planWords stepCount word number
   bits-right r l =
-      let s = steps-right (order rs) (pos n ∷ pos (length rs) ∷ []) 0 0 (order-ordered rs ok)
-      (record { right = λ i _ b. absurd (true≢false (sym b ∙ no-bit i)); unset = λ i b. b }) in
+      let s = steps-right (order rs) (pos n ∷ pos (length rs) ∷ []) 0 0 (order-ordered rs ok) (right-none memberOf (length rs)) in
       ap (λ (k : ℕ). hasBit (settled k (pos n ∷ pos (length rs) ∷ stepsWords rs (order rs)) e 0 2) r) (sym (order-length rs ok))
+      ∙ s .right r l (all-written rs ok r l)
+
+  -- and its outline bit that, where the event is on the outline of the region's own shape
+  pub outline-right : (r : ℕ) → r < length rs → hasBit (outlineOf (planWords n rs) e) r ≡ (m (nthRegion rs r .name) && onShape e (nthRegion rs r .shape))
+  unfolding outlineOf planWords stepCount word number
+  outline-right r l =
+      let s = outlines-right (order rs) (pos n ∷ pos (length rs) ∷ []) 0 0 0 (order-ordered rs ok) (right-none memberOf (length rs))
+      (right-none outlineMemberOf (length rs)) in
+      ap (λ (k : ℕ). hasBit (outlineFrom k (pos n ∷ pos (length rs) ∷ stepsWords rs (order rs)) e 0 0 2) r) (sym (order-length rs ok))
       ∙ s .right r l (all-written rs ok r l)

@@ -1,0 +1,25 @@
+-- Which events are on the outline of what a line draws.
+use mathlib.Core.Bool.{Bool, false}
+use mathlib.Core.List.{List}
+use Prim.Native.Nat.{ℕ}
+use lib.IntN.{ℤ}
+use Rattle.counter.specs.Positions.{isOnOutline, polygonPosition, ellipsePosition}
+use Rattle.gates.specs.Kinds.{fieldAt, valueOf}
+use Rattle.gates.specs.Meaning.{valueUnder, verticesOf}
+use Rattle.gates.specs.Gate.{Event, Leaf, rect, poly, ellip, quadrant}
+
+unfoldable pub onPoly : List (List ℕ) → List (List ℕ) → Event → Bool
+onPoly head fs e = isOnOutline (polygonPosition (verticesOf fs) (valueUnder head e (fieldAt fs 3)) (valueUnder head e (fieldAt fs 4)))
+
+unfoldable pub onEllip : List (List ℕ) → List (List ℕ) → Event → Bool
+onEllip head fs e =
+    let number : ℕ → ℤ = λ k. valueOf (fieldAt fs k) in
+    isOnOutline (ellipsePosition (number 5) (number 6) (number 7) (number 8) (number 9) (number 10)
+    (valueUnder head e (fieldAt fs 3)) (valueUnder head e (fieldAt fs 4)))
+
+-- boxes and quadrants have none
+abbrev pub outlineHolds : Leaf → Event → Bool
+outlineHolds (rect head fs) e = false
+outlineHolds (poly head fs) e = onPoly head fs e
+outlineHolds (ellip head fs) e = onEllip head fs e
+outlineHolds (quadrant head fs q) e = false
