@@ -17,6 +17,9 @@ What is compared:
   to the count of its parent, or to the taken when it has none.
 * Each of N generated questions goes to the executable at --plans, and its answer must
   be the reference's, word for word; --questions picks those of some words only.
+* For some accepted tables that executable compiles the lines in several orders and judges
+  events by each plan of its own: under each region's name both of the answer's sets must
+  say what the lines of the first order say, with no plan between.
 
 The last line is "N passed, M failed"; the exit status is 0 when nothing differs and
 something was compared.
@@ -34,7 +37,8 @@ most 5,000 numbers, a slice at most 9,000 words and a line at most 100,000 bytes
         -> number place                0 0 when the plan passes
 
     judge K w1 .. wK M v1 .. vM        a plan and one event of M values
-        -> number place bits           bits: 64 characters 0 or 1, region 0 first
+        -> number place bits outline   bits, outline: each 64 characters 0 or 1, region 0 first;
+                                       members, and members on the outline of the region's own shape
 
     count K w1 .. wK M v1 .. vM        a plan and a flat list of M values
         -> number place taken spoilt c0 c1 .. c63
@@ -70,6 +74,7 @@ BATCH = 300         # questions for one process
 PATIENCE = 20       # seconds for one process
 KEPT = 20           # differing inputs kept
 SHOWN = 10          # differing inputs told of
+JUDGED = 20         # inputs for each table that is judged in other orders
 
 
 # ---------------------------------------------------------------- the real program
@@ -131,20 +136,45 @@ def question_line(question):
     return ' '.join([verb] + [listed(values) for values in question[1:]]).encode()
 
 
+def written(bits):
+    """64 characters 0 or 1, region 0 first."""
+    return ''.join('1' if bits >> region & 1 else '0' for region in range(64))
+
+
 def reference_answer(question):
     verb = question[0]
     if verb == 'check':
         return b'%d %d' % gates.check_plan(question[1])
     if verb == 'judge':
-        number, place, bits = gates.judge(question[1], question[2])
-        return b'%d %d ' % (number, place) + ''.join(
-            '1' if bits >> region & 1 else '0' for region in range(64)).encode()
+        number, place, bits, outline = gates.judge(question[1], question[2])
+        return ('%d %d %s %s' % (number, place, written(bits), written(outline))).encode()
     if verb == 'count':
         number, place, taken, spoilt, counts = gates.count(question[1], question[2])
         return ' '.join(map(str, [number, place, taken, spoilt] + counts)).encode()
     number, place, words, names = gates.compile_table(question[2], question[1])
     words = words or []
     return ' '.join(map(str, [number, place, len(words), len(names), 0] + words)).encode()
+
+
+def compiled_words(answer):
+    """The words of an answer to `compile`, or None if it was refused."""
+    fields = answer.split(b' ') if answer is not None else []
+    if fields[:2] != [b'0', b'0']:
+        return None
+    try:
+        return [int(field) for field in fields[5:]]
+    except ValueError:
+        return None
+
+
+def judged_by_lines(table, names, event):
+    """The answer to `judge` that a table's lines give; the names are those of regions 0, 1, .."""
+    for place, value in enumerate(event):
+        if not gates.LOWEST <= value <= gates.HIGHEST:
+            return ('24 %d %s %s' % (place, written(0), written(0))).encode()
+    bits, outline = [sum(1 << region for region, name in enumerate(names) if name in found)
+                     for found in (gates.members(table, event), gates.outlined(table, event))]
+    return ('0 0 %s %s' % (written(bits), written(outline))).encode()
 
 
 # ---------------------------------------------------------------- printed outputs
@@ -209,6 +239,7 @@ class Comparison:
         self.labels = collections.Counter()
         self.questions = collections.Counter()
         self.orders = self.sums = 0
+        self.judged = collections.Counter()
 
     def note(self, good, what, given=b'', expected=b'', actual=b''):
         if good:
@@ -274,6 +305,32 @@ class Comparison:
             self.questions[question[0], int(expected.split(b' ')[0])] += 1
             self.note(actual == expected, 'question %s (%s)' % (question[0], label), line + b'\n', expected, actual)
 
+    def judged_orders(self, numbers):
+        """Members and outlines by name, the same by the real program's plan for each order of the lines."""
+        asked = []
+        for number in numbers:
+            lines, events = generate.judged(self.options.seed, number)
+            rng = random.Random('%s judged order %d' % (self.options.seed, number))
+            first = generate.join(lines)
+            for turn, table in enumerate([first] + generate.orders(rng, lines, self.options.orders)):
+                asked.append(('order %d of judged table %d' % (turn, number), first, table, events))
+        compiled = ask(self.options.plans, [question_line(('compile', gates.PLAN_WORDS, table))
+                                            for _, _, table, _ in asked])
+        expected, questions = [], []
+        for (what, first, table, events), answer in zip(asked, compiled):
+            words = compiled_words(answer)
+            self.judged['orders'] += 1
+            self.note(words is not None, 'compiling of ' + what, table, b'(accepted)', answer)
+            names = self.reference(lambda table: gates.compile_table(table, gates.PLAN_WORDS)[3], table)
+            for event in events if words is not None else []:
+                wanted = self.reference(lambda event: judged_by_lines(first, names, event), event)
+                expected.append((what, wanted))
+                questions.append(question_line(('judge', words, event)))
+                self.judged['events'] += 1
+                self.judged['events on an outline'] += b'1' in wanted.split(b' ')[3]
+        for (what, wanted), line, actual in zip(expected, questions, ask(self.options.plans, questions)):
+            self.note(actual == wanted, 'judging by ' + what, line + b'\n', wanted, actual)
+
     def run(self):
         options = self.options
         if options.gatecount:
@@ -291,6 +348,11 @@ class Comparison:
             for verb in ('check', 'judge', 'count', 'compile'):
                 print('%s: %s' % (verb, spread({number: times for (other, number), times
                                                 in sorted(self.questions.items()) if other == verb}, False)))
+            if {'compile', 'judge'} <= set(options.questions):
+                tables = -(-options.inputs // JUDGED)
+                for start in range(0, tables, BATCH // 10):
+                    self.judged_orders(range(start, min(start + BATCH // 10, tables)))
+                print('judged by name: tables %d, %s' % (tables, spread(self.judged, False)))
 
 
 def spread(tally, by_number=True):

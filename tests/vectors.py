@@ -1,12 +1,15 @@
 #!/usr/bin/env python3
 """Examples of Gating-ML 2.0, with members worked out by hand, through gatecount.
 
-    tests/vectors.py [--gatecount COMMAND]
+    tests/vectors.py [--gatecount COMMAND] [--plans COMMAND]
 
 Each event goes through gatecount alone, so that its counts tell of which regions it is a member. The numbers of a vector are those of the
 document's example; what an example has and a table has not (transformed scales, and the parents that need them) is left out. Where a number of
 an example is not whole, all are multiplied; the heading says by what. Where the document and the requirement differ, in outlines that enclose a place
 twice, the requirement rules, and its own marked cases stand here too.
+
+Outlines are not counted, so those vectors are asked as questions `compile` and `judge` (see tests/compare.py): of the
+program at --plans, where it is given, and of the reference program in any case.
 
 That the vectors would see a wrong program is tested too: each fault of FAULTS, planted in the reference program (tests/reference/plants.py), must give
 another answer on the vectors that are named with it. The last line is 'N passed, M failed'.
@@ -20,6 +23,7 @@ import sys
 
 sys.path.insert(0, os.path.join(os.path.dirname(os.path.abspath(__file__)), 'reference'))
 
+import compare
 import gates
 import plants
 
@@ -166,6 +170,93 @@ FAULTS = {
 }
 
 
+# heading, table (spaces for tabs), events: values and the regions of which they are members on the outline
+OUTLINES = [
+    ('example 15, a triangle; its long side is y = 3/4 x',
+     ['dims FSC-H SSC-H',
+      'poly Triangle - FSC-H SSC-H 0 0 400 0 400 300'],
+     [('0 0', 'Triangle'), ('400 0', 'Triangle'), ('400 300', 'Triangle'), ('200 0', 'Triangle'),
+      ('200 150', 'Triangle'), ('400 100', 'Triangle'), ('200 149', ''), ('300 100', ''), ('200 151', ''),
+      ('401 100', ''), ('400 301', '')]),
+
+    ('example 17, an outline that crosses itself at (100, 100)',
+     ['dims FSC-H SSC-H',
+      'poly NonSimple - FSC-H SSC-H 50 50 150 50 50 150 150 150'],
+     [('100 100', 'NonSimple'), ('75 75', 'NonSimple'), ('125 75', 'NonSimple'), ('100 50', 'NonSimple'),
+      ('50 50', 'NonSimple'), ('100 60', ''), ('100 140', ''), ('60 100', ''), ('99 100', '')]),
+
+    ('a star of five corners: its level edge parts two places that are both inside',
+     ['dims FSC-H SSC-H',
+      'poly Star - FSC-H SSC-H 50 100 79 10 2 65 98 65 21 10'],
+     [('50 65', 'Star'), ('2 65', 'Star'), ('98 65', 'Star'), ('50 100', 'Star'), ('50 64', ''), ('50 66', ''),
+      ('50 50', ''), ('50 10', ''), ('1 65', '')]),
+
+    ('the square of the requirement walked twice, and once for each way round',
+     ['dims X Y',
+      'poly Twice - X Y 0 0 10 0 10 10 0 10 0 0 10 0 10 10 0 10',
+      'poly Back - X Y 0 0 10 0 10 10 0 10 0 0 0 10 10 10 10 0'],
+     [('10 5', 'Twice Back'), ('0 5', 'Twice Back'), ('0 0', 'Twice Back'), ('5 10', 'Twice Back'), ('5 5', ''),
+      ('11 5', '')]),
+
+    ('the flat triangle of the requirement, and a point',
+     ['dims X Y',
+      'poly Flat - X Y 0 0 4 0 8 0',
+      'poly Point - X Y 9 0 9 0 9 0'],
+     [('4 0', 'Flat'), ('8 0', 'Flat'), ('6 0', 'Flat'), ('4 1', ''), ('9 0', 'Point'), ('10 0', '')]),
+
+    ('example 18, an ellipse with axes of 200 and 175; at 7/25 of one axis the rim is at 24/25 of the other',
+     ['dims FSC-H SSC-H',
+      'ellip myEllipse - FSC-H SSC-H 400 200 40000 0 30625 1'],
+     [('600 200', 'myEllipse'), ('200 200', 'myEllipse'), ('400 375', 'myEllipse'), ('400 25', 'myEllipse'),
+      ('456 368', 'myEllipse'), ('592 151', 'myEllipse'), ('520 340', 'myEllipse'), ('541 324', ''), ('400 200', ''),
+      ('599 200', ''), ('601 200', ''), ('400 376', ''), ('456 367', ''), ('456 369', '')]),
+
+    ('example 19, an ellipse turned by -45 degrees: 74 and 60 along its axes, over the root of 2, make (67, -7)',
+     ['dims FSC-H SSC-H',
+      'ellip myEllipse2 - FSC-H SSC-H 80 80 4538 -938 4538 1'],
+     [('147 73', 'myEllipse2'), ('73 147', 'myEllipse2'), ('87 13', 'myEllipse2'), ('13 87', 'myEllipse2'),
+      ('147 87', ''), ('146 73', ''), ('148 73', ''), ('132 28', ''), ('80 80', '')]),
+
+    ('examples 24 and 25, a box or an ellipse with axes of 10 and 5: neither the box nor a combination has an outline',
+     ['dims FSC-H SSC-H',
+      'not myBoolean2 - myBoolean',
+      'or myBoolean - R1 E1',
+      'rect R1 - FSC-H 10 30 SSC-H 10 20',
+      'rect R2 E1 FSC-H 30 *',
+      'ellip E1 - FSC-H SSC-H 30 15 100 0 25 1'],
+     [('40 15', 'E1'), ('30 20', 'E1'), ('36 19', 'E1'), ('24 11', 'E1'), ('10 10', ''), ('20 19', ''), ('30 15', ''),
+      ('41 15', '')]),
+
+    ('example 26, the ellipse within the range: on its rim and below the range it is no member',
+     ['dims FSC-H SSC-H FL4-W',
+      'rect Range - FSC-H 300 *',
+      'ellip myEllipse Range FSC-H SSC-H 400 200 40000 0 30625 1',
+      'and myBoolean3 myEllipse Range Range',
+      'quad myQuadrantGate2 myEllipse 1 FL4-W 2 10 100 FL4Neg 0 FL4Dim 50 FL4Pos 500',
+      'poly Around myEllipse FSC-H SSC-H 600 0 600 400 0 400'],
+     [('600 200 9', 'myEllipse Around'), ('400 375 50', 'myEllipse'), ('300 200 50', 'Around'), ('200 200 9', ''),
+      ('280 340 9', ''), ('520 340 9', 'myEllipse'), ('400 200 100', '')]),
+]
+
+# fault of tests/reference/plants.py: words that begin the headings of the outlines that must see it
+OUTLINE_FAULTS = {
+    'edge-said-inside': ['example 15', 'example 17', 'a star', 'the square', 'the flat triangle'],
+    'rim-said-inside': ['example 18', 'example 19', 'examples 24 and 25', 'example 26'],
+    'edge-without-ends': ['example 15', 'the square'],
+    'edge-without-length': ['the flat triangle'],
+    'edge-where-sum': ['the square'],
+    'inner-edge-said-inside': ['a star'],
+    'edges-cancel': ['example 15', 'the square'],
+    'closing-edge-left-out': ['example 15'],
+    'rim-with-c12-added': ['example 19'],
+    'outline-out-of-parent': ['example 26'],
+    'or-takes-over-outline': ['examples 24 and 25'],
+    'box-takes-over-outline': ['examples 24 and 25', 'example 26'],
+    'shape-takes-over-outline': ['example 26'],
+    'combination-takes-parents': ['example 26'],
+}
+
+
 def given(lines):
     return ('\n'.join(lines).replace(' ', '\t') + '\n').encode()
 
@@ -189,10 +280,44 @@ def faults_seen(expect):
                 expect('the fault %s is seen by: %s' % (fault, words), True, [gates.gatecount(data) for data in inputs] != plain)
 
 
+def outlined(ask, table, events):
+    """The regions of which each event is a member on the outline, by what is answered to `compile` and `judge`."""
+    names = gates.compile_table(given(table), gates.PLAN_WORDS)[3]
+    words = compare.compiled_words(ask(('compile', gates.PLAN_WORDS, given(table))))
+    found = []
+    for event, _ in events:
+        answer = words and ask(('judge', words, [int(value) for value in event.split()]))
+        fields = answer.decode().split(' ') if answer else []
+        found.append(sorted(name.decode() for name, bit in zip(names, fields[3]) if bit == '1')
+                     if fields[:2] == ['0', '0'] and len(fields) == 4 else answer)
+    return found
+
+
+def outlines_told(expect, plans):
+    """The outlines by the program, where it is given, and by the reference; and with faults planted there."""
+    asked = [('the reference', compare.reference_answer)]
+    if plans:
+        asked.append(('the program', lambda question: compare.ask(plans, [compare.question_line(question)])[0]))
+    for heading, table, events in OUTLINES:
+        for who, ask in asked:
+            for (event, holders), found in zip(events, outlined(ask, table, events)):
+                expect('outlines of %s by %s, %s' % (event, who, heading), sorted(holders.split()), found)
+    for fault, headings in OUTLINE_FAULTS.items():
+        for words in headings:
+            chosen = [(table, events) for heading, table, events in OUTLINES if heading.startswith(words)]
+            plain = [outlined(compare.reference_answer, *each) for each in chosen]
+            with plants.planted(fault):
+                expect('the fault %s is seen by the outlines of: %s' % (fault, words), True,
+                       [outlined(compare.reference_answer, *each) for each in chosen] != plain)
+
+
 def main():
     parser = argparse.ArgumentParser(description=__doc__.split('\n')[0])
     parser.add_argument('--gatecount', type=shlex.split, default=['target/bin/gatecount'], metavar='COMMAND')
-    command = parser.parse_args().gatecount
+    parser.add_argument('--plans', type=shlex.split, metavar='COMMAND',
+                        help='answers the questions of tests/compare.py')
+    options = parser.parse_args()
+    command = options.gatecount
     passed = failed = 0
 
     def expect(what, wanted, found):
@@ -213,6 +338,7 @@ def main():
             members = sorted(line.split()[0] for line in lines[:-2] if line.split()[1] == '1')
             expect('%s of %s' % (event, heading), sorted(holders.split()), members)
     faults_seen(expect)
+    outlines_told(expect, options.plans)
     print('%d passed, %d failed' % (passed, failed))
     return failed != 0
 

@@ -1,4 +1,4 @@
-"""The gate counter, written apart from the main program and straight from paper 01.
+"""The gate counter, written apart from the main program and straight from papers 01 and 02.
 
 Nothing here is shared with the main program, so that a misreading or a slip in one
 of the two shows as a difference.  All numbers are Python's whole numbers: nothing
@@ -8,12 +8,14 @@ Names and table text are bytes throughout, since a table is bytes.
 
     compile_table(table, slice_words) -> (number, place, words or None, region names)
     check_plan(words)                 -> (number, place)
-    judge(words, event)               -> (number, place, bits)
+    judge(words, event)               -> (number, place, bits, outline)
     count(words, values)              -> (number, place, taken, spoilt, 64 counts)
     members(table, event)             -> set of region names, with no plan between
+    outlined(table, event)            -> those of them on whose own outline the event is
     gatecount(data)                   -> the program's whole standard output
 
-A number of 0 (with place 0) says that nothing was refused.
+A number of 0 (with place 0) says that nothing was refused.  `bits` and `outline` are sets
+of 64 bits, bit r for region r: the members, and those that are on the region's outline.
 """
 
 import itertools
@@ -39,6 +41,9 @@ D2_RANGE = (1, WIDEST)
 
 KINDS = (b'rect', b'poly', b'ellip', b'quad', b'and', b'or', b'not')
 BOX, POLYGON, ELLIPSE, AND, OR, NOT = 1, 2, 3, 4, 5, 6
+
+# 02 a: what the polygon test and the ellipse test answer.
+OUTSIDE, INSIDE, ON_OUTLINE = 'outside', 'inside', 'on the outline'
 
 NAME = re.compile(rb'[A-Za-z][A-Za-z0-9_-]{0,15}')
 NUMBER = re.compile(rb'0|-?[1-9][0-9]*')
@@ -557,25 +562,39 @@ def box_holds(body, event):
                for dimension, low, high in zip(body[0::3], body[1::3], body[2::3]))
 
 
-def polygon_holds(vertices, x, y):
-    """01's rule: on some edge, or the sum over the edges isn't 0."""
+def polygon_position(vertices, x, y):
+    """On the outline: on some edge, wherever it runs.  Inside: the sum over the edges isn't 0."""
     points = list(zip(vertices[0::2], vertices[1::2]))
     total = 0
     for (x0, y0), (x1, y1) in zip(points, points[1:] + points[:1]):
         s = (x1 - x0) * (y - y0) - (x - x0) * (y1 - y0)
         if s == 0 and min(x0, x1) <= x <= max(x0, x1) and min(y0, y1) <= y <= max(y0, y1):
-            return True
+            return ON_OUTLINE
         if y0 <= y < y1 and s > 0:
             total += 1
         if y1 <= y < y0 and s < 0:
             total -= 1
-    return total != 0
+    return INSIDE if total != 0 else OUTSIDE
+
+
+def polygon_holds(vertices, x, y):
+    """01's rule: on some edge, or the sum over the edges isn't 0."""
+    return polygon_position(vertices, x, y) != OUTSIDE
+
+
+def ellipse_position(mean_x, mean_y, c11, c12, c22, d2, x, y):
+    """000's rule multiplied by the determinant.  On the outline: both sides are equal."""
+    dx, dy = x - mean_x, y - mean_y
+    left = c22 * dx * dx - 2 * c12 * dx * dy + c11 * dy * dy
+    right = d2 * (c11 * c22 - c12 * c12)
+    if left == right:
+        return ON_OUTLINE
+    return INSIDE if left < right else OUTSIDE
 
 
 def ellipse_holds(mean_x, mean_y, c11, c12, c22, d2, x, y):
-    """000's rule multiplied by the determinant; the rim is inside."""
-    dx, dy = x - mean_x, y - mean_y
-    return c22 * dx * dx - 2 * c12 * dx * dy + c11 * dy * dy <= d2 * (c11 * c22 - c12 * c12)
+    """The rim is inside."""
+    return ellipse_position(mean_x, mean_y, c11, c12, c22, d2, x, y) != OUTSIDE
 
 
 def is_spoilt(event):
@@ -623,17 +642,40 @@ def event_bits(steps, event):
     return bits
 
 
+def on_outline(kind, body, event):
+    """Whether an event is on the outline of a step's own shape; boxes and combinations have none."""
+    if kind == POLYGON:
+        return polygon_position(body[2:], event[body[0]], event[body[1]]) == ON_OUTLINE
+    if kind == ELLIPSE:
+        return ellipse_position(*body[2:], event[body[0]], event[body[1]]) == ON_OUTLINE
+    return False
+
+
+def outline_bits(steps, event, bits):
+    """Bit r for region r: of the regions with a bit set, those on whose outline the event is."""
+    outline = 0
+    for kind, region, _, body in steps:
+        if bits >> region & 1 and on_outline(kind, body, event):
+            outline |= 1 << region
+    return outline
+
+
 def judge(words, event):
-    """(number, place, bits): 21, 22, 23 for the event's length, 24 for its first bad value."""
+    """(number, place, bits, outline): 21, 22, 23 for the event's length, 24 for its first bad value.
+
+    A refused judging sets no bit in either set.
+    """
     number, place = check_plan(words)
     if number:
-        return number, place, 0
+        return number, place, 0, 0
     if len(event) != words[0]:
-        return 23, len(event), 0
+        return 23, len(event), 0, 0
     for at, value in enumerate(event):
         if not LOWEST <= value <= HIGHEST:
-            return 24, at, 0
-    return 0, 0, event_bits(plan_steps(words), event)
+            return 24, at, 0, 0
+    steps = plan_steps(words)
+    bits = event_bits(steps, event)
+    return 0, 0, bits, outline_bits(steps, event, bits)
 
 
 def count(words, values):
@@ -659,7 +701,7 @@ def count(words, values):
     return 0, 0, taken, spoilt, counts
 
 
-# ---------------------------------------------------------------- members without a plan
+# ---------------------------------------------------------------- members and outlines without a plan
 
 def membership(table):
     """A function from an event to the names of the regions that it is a member of.
@@ -725,6 +767,37 @@ def membership(table):
 def members(table, event):
     """The names of the regions of an accepted table that an event is a member of."""
     return membership(table)(event)
+
+
+def outlines(table):
+    """A function from an event to the names of the regions that it is a member of and on
+    the outline of whose own shape it is.
+
+    Like `membership` it looks at the lines of an accepted table only.
+    """
+    lines = table[:-1].split(b'\n')
+    head = lines[0].split(b'\t')[1:]
+    gates = [read_gate(line.split(b'\t')) for line in lines[1:]]
+    members_of = membership(table)
+
+    def position(gate, value):
+        x, y = [value[dimension] for dimension in gate.dimensions]
+        if gate.kind == b'poly':
+            return polygon_position([number_value(field) for field in gate.vertices], x, y)
+        return ellipse_position(*[number_value(field) for field in gate.ellipse], x, y)
+
+    def names_of(event):
+        value = dict(zip(head, event))
+        inside = members_of(event)
+        return {gate.name for gate in gates if gate.kind in (b'poly', b'ellip')
+                and gate.name in inside and position(gate, value) == ON_OUTLINE}
+
+    return names_of
+
+
+def outlined(table, event):
+    """The names of the regions that an event is a member of and on whose own outline it is."""
+    return outlines(table)(event)
 
 
 # ---------------------------------------------------------------- the program

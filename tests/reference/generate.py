@@ -4,6 +4,7 @@ Everything hangs on a seed and a number only, so each input can be made again al
 
     case(seed, number)      one standard input for `gatecount`
     request(seed, number)   one question about a plan or a table
+    judged(seed, number)    a table, and events to be judged under other orders of its lines
     orders(rng, lines, k)   several orders of a table's gate lines
 
 Most inputs are small; a few stand at the limits of size.  Tables are built valid, with
@@ -60,6 +61,264 @@ def text(value):
 
 def clip(value, limits=(-65536, 65535)):
     return max(limits[0], min(limits[1], value))
+
+
+# ---------------------------------------------------------------- outlines
+
+def outline(rng, value):
+    """The vertices of a polygon, plain, self-crossing, walked twice, flat or a point."""
+    shape = rng.randrange(8)
+    if shape == 0:      # a rectangle, walked once, twice, thrice or forth and back
+        x0, x1 = sorted((value(), value()))
+        y0, y1 = sorted((value(), value()))
+        once = [(x0, y0), (x1, y0), (x1, y1), (x0, y1)]
+        back = [once[0]] + once[:0:-1]
+        return rng.choice((once, back, once * 2, back * 2, once * 3, once + back))
+    if shape == 1:      # a five-pointed star: its core is wound twice
+        x, y, r = value(), value(), rng.choice((10, 20, 30, 500))
+        ring = [(0, 10), (10, 3), (6, -8), (-6, -8), (-10, 3)]
+        return [(clip(x + ring[k][0] * r // 10), clip(y + ring[k][1] * r // 10))
+                for k in (0, 2, 4, 1, 3)]
+    if shape == 2:      # flat: all on one line, level, upright or slanting
+        x, y = value(), value()
+        dx, dy = rng.choice(((1, 0), (0, 1), (1, 1), (2, -1), (3, 2)))
+        steps = [rng.randint(-4, 4) for _ in range(rng.randint(3, 6))]
+        return [(clip(x + dx * k), clip(y + dy * k)) for k in steps]
+    if shape == 3:      # one point again and again
+        return [(value(), value())] * rng.randint(3, 5)
+    if shape == 4:      # an eight: one half wound forth, one back
+        x, y, r = value(), value(), rng.randint(1, 6)
+        return [(clip(x + a * r), clip(y + b * r)) for a, b in ((-2, -1), (2, 1), (2, -1), (-2, 1))]
+    if shape == 5:      # with vertices repeated
+        some = [(value(), value()) for _ in range(rng.randint(2, 5))]
+        return [rng.choice(some) for _ in range(rng.randint(3, 9))]
+    return [(value(), value()) for _ in range(rng.randint(3, 9))]
+
+
+def inner_outline(rng):
+    """The vertices of a polygon with edges in its inside, or walked more than once, near (0, 0)."""
+    a, b = rng.randint(2, 6), rng.randint(2, 6)
+    outer = [(-a, -b), (a, -b), (a, b), (-a, b)]
+    style = rng.randrange(4)
+    if style == 0:      # a smaller rectangle within, the way to it and back once more
+        inner = [(x // 2, y // 2) for x, y in outer]
+        return outer + outer[:1] + (inner if rng.random() < 0.5 else [inner[0]] + inner[:0:-1]) + inner[:1]
+    if style == 1:      # a spike from a corner into the inside and back
+        return outer + outer[:1] + [(rng.randint(-a, a), rng.randint(-b, b))]
+    if style == 2:      # two that overlap, walked the same way round
+        return outer + outer[:1] + [(x + 1, y + 1) for x, y in outer] + [(1 - a, 1 - b)]
+    # A side walked three times: forth, back and forth.
+    return outer[:2] + outer[:2] + outer[2:]
+
+
+def on_edge(rng, vertices):
+    """A vertex, or a whole point on an edge, which may run along a dimension or be a point."""
+    at = rng.randrange(len(vertices))
+    (x0, y0), (x1, y1) = vertices[at - 1], vertices[at]
+    parts = math.gcd(x1 - x0, y1 - y0) or 1
+    k = rng.choice((0, rng.randint(0, parts), rng.randint(0, parts)))
+    return x0 + (x1 - x0) // parts * k, y0 + (y1 - y0) // parts * k
+
+
+def near_outline(rng, vertices):
+    """A vertex, a whole point on an edge, or a place near or amid the outline."""
+    at = rng.randrange(len(vertices))
+    (x0, y0), (x1, y1) = vertices[at - 1], vertices[at]
+    style = rng.randrange(4)
+    if style == 0:
+        x, y = x0, y0
+    elif style < 3:
+        parts = math.gcd(x1 - x0, y1 - y0) or 1
+        k = rng.randint(0, parts)
+        x, y = x0 + (x1 - x0) // parts * k, y0 + (y1 - y0) // parts * k
+        if style == 2:
+            x, y = x + rng.randint(-1, 1), y + rng.randint(-1, 1)
+    else:
+        x = sum(point[0] for point in vertices) // len(vertices)
+        y = sum(point[1] for point in vertices) // len(vertices)
+    return clip(x), clip(y)
+
+
+def on_scale(*points):
+    return all(-65536 <= value <= 65535 for point in points for value in point)
+
+
+def long_edge(rng, x, y):
+    """The vertices of a polygon with a long edge through the point: level, upright or slanting."""
+    dx, dy = rng.choice(((1, 0), (0, 1), (1, 1), (1, -1), (2, 1), (-3, 2), (1, -5), (300, -7)))
+    ends = []
+    for way in (-1, 1):
+        reach = 0
+        while on_scale((x + way * dx * (2 * reach + 1), y + way * dy * (2 * reach + 1))):
+            reach = 2 * reach + 1
+        k = way * rng.choice((0, min(1, reach), reach, rng.randint(0, reach)))
+        ends.append((x + k * dx, y + k * dy))
+    far = rng.choice((2, 9, 65536))
+    rest = [(clip(x + rng.randint(-far, far)), clip(y + rng.randint(-far, far))) for _ in range(rng.randint(1, 4))]
+    vertices = ends + rest
+    return rng.choice((vertices, vertices[::-1], vertices * 2, rest + ends))
+
+
+def bent_outline(rng):
+    """The vertices of a bent polygon, and a point inside on the line of an edge, beyond its end."""
+    a, b, c, d = [rng.randint(2, 6) for _ in range(4)]
+    vertices = [(0, 0), (a + b, 0), (a + b, c), (a, c), (a, c + d), (0, c + d)]
+    point = rng.choice(((rng.randint(1, a - 1), c), (a, rng.randint(1, c - 1))))
+    lean, way_x, way_y = rng.choice((0, 0, 0, 1, -2)), rng.choice((-1, 1)), rng.choice((-1, 1))
+    turned = [(way_x * (x + lean * y), way_y * y) for x, y in vertices + [point]]
+    if rng.random() < 0.5:
+        turned = [(y, x) for x, y in turned]
+    return turned[:-1], turned[-1]
+
+
+def wrapped_edge(rng, x, y):
+    """The vertices of a polygon that holds the point, or None if it has no room on the scale.
+
+    The point is in the box around a long edge, and s is 2 to the 32, which 32 bits take for 0.
+    """
+    swap = rng.random() < 0.5
+    if swap:
+        x, y = y, x
+    way_x, way_y = -1 if x > 0 else 1, -1 if y < 0 else 1
+    # The edge is (65536, 98304) long, and the point is (2 t, 65536 + 3 t) from its lower end.
+    least, most = max(1, (abs(y) - 32765) // 3), min(abs(y) // 3, 10922)
+    if least > most:
+        return None
+    t = rng.randint(least, most)
+    vertices = [(x + way_x * (vx - 2 * t), y + way_y * (vy - 65536 - 3 * t))
+                for vx, vy in ((0, 0), (65536, 98304), (0, 98304))]
+    if not on_scale(*vertices):
+        return None
+    return [(vy, vx) for vx, vy in vertices] if swap else vertices
+
+
+def outline_through(rng, x, y):
+    """The vertices of a polygon that mostly carries the point, which is on the scale."""
+    if rng.random() < 0.3:
+        return long_edge(rng, x, y)
+    vertices = wrapped_edge(rng, x, y) if rng.random() < 0.2 else None
+    for _ in range(10):
+        if vertices:
+            return vertices
+        style, far = rng.random(), rng.choice((2, 5, 9, 400, 32000))
+        if style < 0.2:
+            vertices, (px, py) = bent_outline(rng)
+        else:
+            vertices = inner_outline(rng) if style < 0.45 else outline(rng, lambda: rng.randint(-far, far))
+            px, py = on_edge(rng, vertices)
+        vertices = [(x + vx - px, y + vy - py) for vx, vy in vertices]
+        if not on_scale(*vertices):
+            vertices = None
+    return [(x, y)] * 3
+
+
+def matrix(rng):
+    """A good matrix, D2, and some whole points on the rim, less the means."""
+    style = rng.randrange(4)
+    if style == 0:      # axes along the dimensions: a*k and b*k are on the rim
+        a, b = rng.choice((1, 2, 5, 60, 4095, 4096)), rng.choice((1, 3, 7, 50, 4093, 4096))
+        k = rng.choice((1, 2, 16, 31, 64))
+        return (a * a, 0, b * b), k * k, [(a * k, 0), (-a * k, 0), (0, b * k), (0, -b * k)]
+    if style == 1:
+        return mapped_circle(rng, rng.random() >= 0.5)
+    if style == 2:
+        return rng.choice(GOOD_MATRICES), rng.choice((1, 2, 9, 4095, 4096)), [(3, 2)]
+    while True:
+        c11, c22 = rng.randint(1, 400), rng.randint(1, 400)
+        c12 = rng.randint(-300, 300)
+        if c11 * c22 > c12 * c12:
+            return (c11, c12, c22), rng.randint(1, 6), [(rng.randint(-20, 20), rng.randint(-20, 20))]
+
+
+def mapped_circle(rng, large):
+    """A circle through (p, q) seen through a whole map M.
+
+    The matrix is (p2 + q2) M Mt, and k times the map of such a point is on the rim for D2 = k2.
+    """
+    if not large:
+        p, q, k = rng.randint(0, 12), rng.randint(1, 12), rng.choice((1, 1, 2))
+        m = [rng.randint(-4, 4) for _ in range(4)]
+    else:
+        # As large as the ranges allow, and with odd products: more than 53 bits.
+        p, q, k = rng.randrange(33, 41, 2), rng.randrange(32, 42, 2), rng.randrange(21, 32, 2)
+        m = [rng.choice((-1, 1)) * (rng.randrange(24, 48, 2) + odd) for odd in (1, 0, 1, 0)]
+    if m[0] * m[3] == m[1] * m[2]:
+        m = [1, rng.randint(-3, 3), 0, 1]
+    size = p * p + q * q
+    good = (size * (m[0] * m[0] + m[1] * m[1]), size * (m[0] * m[2] + m[1] * m[3]),
+            size * (m[2] * m[2] + m[3] * m[3]))
+    rim = [(k * (m[0] * x + m[1] * y), k * (m[2] * x + m[3] * y))
+           for x, y in ((p, q), (-q, p), (-p, -q), (q, -p))]
+    return good, k * k, rim
+
+
+def odd_rim(rng):
+    """Likewise, with points only for which the two sides are not equal in doubles."""
+    while True:
+        (c11, c12, c22), d2, rim = mapped_circle(rng, True)
+        right = d2 * (float(c11) * c22 - float(c12) * c12)
+        odd = [(dx, dy) for dx, dy in rim if max(abs(dx), abs(dy)) < 65536
+               and c22 * float(dx) * dx - 2 * c12 * float(dx) * dy + c11 * float(dy) * dy != right]
+        if odd:
+            return (c11, c12, c22), d2, odd
+
+
+def rim_matrix(rng):
+    """Likewise, tilted mostly, and all of the points are on the rim.
+
+    The circle of radius r through a whole map M has the matrix M Mt and D2 = r2, and the
+    map of each whole point of the circle is on the rim.
+    """
+    if rng.random() < 0.3:
+        p, q = rng.randint(0, 63), rng.randint(1, 10)
+    else:
+        p, q = rng.choice(((0, 1), (1, 1), (0, 2), (1, 2), (3, 4), (5, 0), (7, 1), (8, 9), (39, 50), (0, 64)))
+    size = rng.choice((1, 2, 5, 40, 1000))
+    m = [rng.randint(-size, size) for _ in range(4)]
+    if m[0] * m[3] == m[1] * m[2]:
+        m = [1, rng.randint(-3, 3), 0, 1]
+    good = (m[0] * m[0] + m[1] * m[1], m[0] * m[2] + m[1] * m[3], m[2] * m[2] + m[3] * m[3])
+    circle = [(a * x, b * y) for x, y in ((p, q), (q, p)) for a in (-1, 1) for b in (-1, 1)]
+    return good, p * p + q * q, [(m[0] * x + m[1] * y, m[2] * x + m[3] * y) for x, y in circle]
+
+
+def ellipse(rng, value, make):
+    """Means, matrix, D2, and points on the rim, beside it and amid."""
+    mean_x, mean_y = value(), value()
+    entries, d2, rim = make(rng)
+    dx, dy = rng.choice(rim)
+    if max(abs(mean_x + dx), abs(mean_y + dy)) > 65535:
+        # At least one point of a wide ellipse's rim is to be on the scale.
+        mean_x, mean_y = clip(-dx // 2), clip(-dy // 2)
+    points = []
+    for dx, dy in rim:
+        x, y = mean_x + dx, mean_y + dy
+        points.append((clip(x), clip(y)))
+        x, y = x + rng.randint(-1, 1), y + rng.randint(-1, 1)
+        points.append((clip(x), clip(y)))
+    points.append((mean_x, mean_y))
+    return (mean_x, mean_y), entries, d2, points
+
+
+def ellipse_through(rng, x, y):
+    """Means, matrix and D2 of an ellipse with the point on its rim mostly; it may be off the scale."""
+    for _ in range(10):
+        style = rng.random()
+        if style < 0.15:
+            # Amid: there the left side is 0, and 32 bits of the right side often are too.
+            entries = rng.choice(GOOD_MATRICES + [(65536, 0, 65536)] * 5)
+            d2, rim = rng.choice((1, 2, 256, 4095, 4096)), [(0, 0)]
+        elif style < 0.2:
+            entries, d2, rim = odd_rim(rng)
+        elif style < 0.3:
+            entries, d2, rim = mapped_circle(rng, True)
+        else:
+            entries, d2, rim = matrix(rng) if style < 0.4 else rim_matrix(rng)
+        dx, dy = rng.choice(rim)
+        if on_scale((x - dx, y - dy)):
+            return (x - dx, y - dy), entries, d2
+    means = (x - 1 if x > 0 else x + 1, clip(y))
+    return means, (1, 0, 1), 1 + (y - means[1]) ** 2
 
 
 # ---------------------------------------------------------------- valid tables
@@ -166,127 +425,42 @@ class Table:
                 self.points.append([(dimension, clip(value))])
         return self.finish(line, 4 + 3 * len(chosen))
 
-    def outline(self):
-        """The vertices of a polygon, plain, self-crossing, walked twice, flat or a point."""
-        rng, value = self.rng, self.value
-        shape = rng.randrange(8)
-        if shape == 0:      # a rectangle, walked once, twice, thrice or forth and back
-            x0, x1 = sorted((value(), value()))
-            y0, y1 = sorted((value(), value()))
-            once = [(x0, y0), (x1, y0), (x1, y1), (x0, y1)]
-            back = [once[0]] + once[:0:-1]
-            return rng.choice((once, back, once * 2, back * 2, once * 3, once + back))
-        if shape == 1:      # a five-pointed star: its core is wound twice
-            x, y, r = value(), value(), rng.choice((10, 20, 30, 500))
-            ring = [(0, 10), (10, 3), (6, -8), (-6, -8), (-10, 3)]
-            return [(clip(x + ring[k][0] * r // 10), clip(y + ring[k][1] * r // 10))
-                    for k in (0, 2, 4, 1, 3)]
-        if shape == 2:      # flat: all on one line, level, upright or slanting
-            x, y = value(), value()
-            dx, dy = rng.choice(((1, 0), (0, 1), (1, 1), (2, -1), (3, 2)))
-            steps = [rng.randint(-4, 4) for _ in range(rng.randint(3, 6))]
-            return [(clip(x + dx * k), clip(y + dy * k)) for k in steps]
-        if shape == 3:      # one point again and again
-            return [(value(), value())] * rng.randint(3, 5)
-        if shape == 4:      # an eight: one half wound forth, one back
-            x, y, r = value(), value(), rng.randint(1, 6)
-            return [(clip(x + a * r), clip(y + b * r)) for a, b in ((-2, -1), (2, 1), (2, -1), (-2, 1))]
-        if shape == 5:      # with vertices repeated
-            some = [(value(), value()) for _ in range(rng.randint(2, 5))]
-            return [rng.choice(some) for _ in range(rng.randint(3, 9))]
-        return [(value(), value()) for _ in range(rng.randint(3, 9))]
-
     def poly(self, vertices=None):
         rng = self.rng
         line = self.begin(b'poly')
         first, second = rng.sample(range(self.n), 2)
-        outline = vertices or self.outline()
+        vertices = vertices or outline(rng, self.value)
+        for _ in range(4):
+            x, y = near_outline(rng, vertices)
+            self.points.append([(first, x), (second, y)])
+        return self.finish_poly(line, first, second, vertices)
+
+    def finish_poly(self, line, first, second, vertices):
         line.add('dimension', self.dimensions[first])
         line.add('dimension', self.dimensions[second])
-        for x, y in outline:
+        for x, y in vertices:
             line.add('vertex', text(x))
             line.add('vertex', text(y))
-        for _ in range(4):
-            self.points.append(self.near_outline(first, second, outline))
-        return self.finish(line, 6 + 2 * len(outline))
-
-    def near_outline(self, first, second, outline):
-        """A vertex, a whole point on an edge, or a place near or amid the outline."""
-        rng = self.rng
-        at = rng.randrange(len(outline))
-        (x0, y0), (x1, y1) = outline[at - 1], outline[at]
-        style = rng.randrange(4)
-        if style == 0:
-            x, y = x0, y0
-        elif style < 3:
-            parts = math.gcd(x1 - x0, y1 - y0) or 1
-            k = rng.randint(0, parts)
-            x, y = x0 + (x1 - x0) // parts * k, y0 + (y1 - y0) // parts * k
-            if style == 2:
-                x, y = x + rng.randint(-1, 1), y + rng.randint(-1, 1)
-        else:
-            x = sum(point[0] for point in outline) // len(outline)
-            y = sum(point[1] for point in outline) // len(outline)
-        return [(first, clip(x)), (second, clip(y))]
+        return self.finish(line, 6 + 2 * len(vertices))
 
     def ellip(self):
         rng = self.rng
         line = self.begin(b'ellip')
         first, second = rng.sample(range(self.n), 2)
-        mean_x, mean_y = self.value(), self.value()
-        matrix, d2, rim = self.matrix()
-        dx, dy = rng.choice(rim)
-        if max(abs(mean_x + dx), abs(mean_y + dy)) > 65535:
-            # At least one point of a wide ellipse's rim is to be on the scale.
-            mean_x, mean_y = clip(-dx // 2), clip(-dy // 2)
+        means, entries, d2, points = ellipse(rng, self.value, matrix)
+        for x, y in points:
+            self.points.append([(first, x), (second, y)])
+        return self.finish_ellip(line, first, second, means, entries, d2)
+
+    def finish_ellip(self, line, first, second, means, entries, d2):
         line.add('dimension', self.dimensions[first])
         line.add('dimension', self.dimensions[second])
-        line.add('mean', text(mean_x))
-        line.add('mean', text(mean_y))
-        for entry in matrix:
+        for mean in means:
+            line.add('mean', text(mean))
+        for entry in entries:
             line.add('entry', text(entry))
         line.add('d2', text(d2))
-        for dx, dy in rim:
-            x, y = mean_x + dx, mean_y + dy
-            self.points.append([(first, clip(x)), (second, clip(y))])
-            x, y = x + rng.randint(-1, 1), y + rng.randint(-1, 1)
-            self.points.append([(first, clip(x)), (second, clip(y))])
-        self.points.append([(first, mean_x), (second, mean_y)])
         return self.finish(line, 12)
-
-    def matrix(self):
-        """A good matrix, D2, and some whole points on the rim, less the means."""
-        rng = self.rng
-        style = rng.randrange(4)
-        if style == 0:      # axes along the dimensions: a*k and b*k are on the rim
-            a, b = rng.choice((1, 2, 5, 60, 4095, 4096)), rng.choice((1, 3, 7, 50, 4093, 4096))
-            k = rng.choice((1, 2, 16, 31, 64))
-            return (a * a, 0, b * b), k * k, [(a * k, 0), (-a * k, 0), (0, b * k), (0, -b * k)]
-        if style == 1:
-            # A circle through (p, q) seen through a whole map M: the matrix is
-            # (p2 + q2) M Mt, and k times the map of such a point is on the rim for D2 = k2.
-            if rng.random() < 0.5:
-                p, q, k = rng.randint(0, 12), rng.randint(1, 12), rng.choice((1, 1, 2))
-                m = [rng.randint(-4, 4) for _ in range(4)]
-            else:
-                # As large as the ranges allow, and with odd products: more than 53 bits.
-                p, q, k = rng.randrange(33, 41, 2), rng.randrange(32, 42, 2), rng.randrange(21, 32, 2)
-                m = [rng.choice((-1, 1)) * (rng.randrange(24, 48, 2) + odd) for odd in (1, 0, 1, 0)]
-            if m[0] * m[3] == m[1] * m[2]:
-                m = [1, rng.randint(-3, 3), 0, 1]
-            size = p * p + q * q
-            good = (size * (m[0] * m[0] + m[1] * m[1]), size * (m[0] * m[2] + m[1] * m[3]),
-                    size * (m[2] * m[2] + m[3] * m[3]))
-            rim = [(k * (m[0] * x + m[1] * y), k * (m[2] * x + m[3] * y))
-                   for x, y in ((p, q), (-q, p), (-p, -q), (q, -p))]
-            return good, k * k, rim
-        if style == 2:
-            return rng.choice(GOOD_MATRICES), rng.choice((1, 2, 9, 4095, 4096)), [(3, 2)]
-        while True:
-            c11, c22 = rng.randint(1, 400), rng.randint(1, 400)
-            c12 = rng.randint(-300, 300)
-            if c11 * c22 > c12 * c12:
-                return (c11, c12, c22), rng.randint(1, 6), [(rng.randint(-20, 20), rng.randint(-20, 20))]
 
     def quad(self, room=None):
         """A quadrant gate; with one quadrant that holds all if there is no room for more."""
@@ -501,6 +675,76 @@ def full_table(rng):
             table.combination(b'not', 1)
         else:
             table.gate()
+    return table.mix()
+
+
+class OutlineTable(Table):
+    """A table for one event: outlines go through it or just beside it, boxes just hold it or don't."""
+
+    def __init__(self, rng):
+        super().__init__(rng, n=rng.choice((2, 3, 3, 4)))
+        self.middle = [super(OutlineTable, self).value() for _ in range(self.n)]
+        self.parents = rng.choice((0.0, 0.4, 0.8))
+
+    def value(self):
+        """For the bounds and dividers, mostly at the event."""
+        if self.rng.random() < 0.6:
+            return clip(self.rng.choice(self.middle) + self.rng.randint(-1, 1))
+        return super().value()
+
+    def aim(self, first, second):
+        """The event's place in two dimensions, or one beside it, which may be off the scale."""
+        rng = self.rng
+        x, y = self.middle[first], self.middle[second]
+        if rng.random() < 0.25:
+            x, y = x + rng.randint(-1, 1), y + rng.randint(-1, 1)
+        return x, y
+
+    def rect(self):
+        rng = self.rng
+        line = self.begin(b'rect')
+        chosen = rng.sample(range(self.n), rng.randint(1, self.n))
+        for dimension in chosen:
+            value = self.middle[dimension]
+            low, high = rng.choice(((value, value + 1), (value - 3, value + 1), (value, value + 3), (-65536, 65536),
+                                    (-65536, 65536), (value - 2, value), (value + 1, value + 2)))
+            high = clip(high, (-65535, 65536))
+            low = clip(low, (-65536, high - 1))
+            line.add('dimension', self.dimensions[dimension])
+            line.add('min', text(low))
+            line.add('max', text(high))
+        return self.finish(line, 4 + 3 * len(chosen))
+
+    def poly(self):
+        line = self.begin(b'poly')
+        first, second = self.rng.sample(range(self.n), 2)
+        x, y = self.aim(first, second)
+        return self.finish_poly(line, first, second, outline_through(self.rng, clip(x), clip(y)))
+
+    def ellip(self):
+        line = self.begin(b'ellip')
+        first, second = self.rng.sample(range(self.n), 2)
+        return self.finish_ellip(line, first, second, *ellipse_through(self.rng, *self.aim(first, second)))
+
+    def operand(self):
+        """The event is in most regions; with less of `!` it is in more combinations too."""
+        name = self.rng.choice(self.regions)
+        return b'!' + name if self.rng.random() < 0.2 else name
+
+    def event(self):
+        """The event, mostly, or one beside it, which may be off the scale."""
+        rng, values = self.rng, list(self.middle)
+        if rng.random() < 0.25:
+            for dimension in rng.sample(range(self.n), rng.choice((1, 1, 2))):
+                values[dimension] += rng.choice((-1, 1))
+        return values
+
+
+def outline_table(rng):
+    """Outlines at one event, children of every kind in them, and combinations over them."""
+    table = OutlineTable(rng)
+    rng.choice((table.poly, table.ellip))()
+    table.fill(rng.choice((0, 1, 2, 3, 4, 6, 9, 64)))
     return table.mix()
 
 
@@ -1248,6 +1492,13 @@ def case(seed, number):
     return rng.choices(_MAKERS, _WEIGHTS)[0](rng)
 
 
+def judged(seed, number):
+    """Head and gate lines of an accepted table, and events, many of them on outlines."""
+    rng = random.Random('%s judged %d' % (seed, number))
+    table = rng.choice((outline_table, outline_table, outline_table, referring_table, small_table))(rng)
+    return [table.head()] + [line.bytes() for line in table.lines], table.events(4)
+
+
 def orders(rng, lines, k):
     """Up to k other orders of the gate lines below line 1, as tables."""
     head, gate_lines = lines[0], lines[1:]
@@ -1320,36 +1571,35 @@ class Plan:
                 self.points += [[(dimension, clip(low))], [(dimension, clip(high))], [(dimension, high - 1)]]
         elif kind == 2:
             first, second = rng.sample(range(self.n), 2)
-            outline = [(self.value(), self.value()) for _ in range(rng.choice((3, 3, 4, 5, 9)))]
+            if rng.random() < 0.5:
+                vertices = [(self.value(), self.value()) for _ in range(rng.choice((3, 3, 4, 5, 9)))]
+            else:
+                vertices = outline(rng, self.value)
             if rng.random() < 0.3:
-                outline *= 2
-                self.points += [[(first, sum(x for x, _ in outline) // len(outline)),
-                                 (second, sum(y for _, y in outline) // len(outline))]] * 4
-            self.add('length', 2 + 2 * len(outline))
+                vertices *= 2
+                self.points += [[(first, sum(x for x, _ in vertices) // len(vertices)),
+                                 (second, sum(y for _, y in vertices) // len(vertices))]] * 4
+            self.add('length', 2 + 2 * len(vertices))
             self.add('dimension', first)
             self.add('dimension', second)
-            for x, y in outline:
+            for x, y in vertices:
                 self.add('vertex', x)
                 self.add('vertex', y)
+            for _ in range(6):
+                x, y = near_outline(rng, vertices)
                 self.points.append([(first, x), (second, y)])
         elif kind == 3:
             first, second = rng.sample(range(self.n), 2)
             self.add('length', 8)
             self.add('dimension', first)
             self.add('dimension', second)
-            mean_x, mean_y = self.value(), self.value()
-            self.add('mean', mean_x)
-            self.add('mean', mean_y)
-            if rng.random() < 0.5:
-                a, b, k = rng.randint(1, 4), rng.randint(1, 4), rng.randint(1, 3)
-                matrix, d2 = (a * a, 0, b * b), k * k
-                self.points += [[(first, clip(mean_x + a * k)), (second, mean_y)],
-                                [(first, mean_x), (second, clip(mean_y - b * k))]]
-            else:
-                matrix, d2 = rng.choice(GOOD_MATRICES), rng.choice((1, 2, 4095, 4096))
-            for role, entry in zip(('c11', 'c12', 'c22'), matrix):
+            means, entries, d2, points = ellipse(rng, self.value, rng.choice((matrix, rim_matrix)))
+            for mean in means:
+                self.add('mean', mean)
+            for role, entry in zip(('c11', 'c12', 'c22'), entries):
                 self.add(role, entry)
             self.add('d2', d2)
+            self.points += [[(first, x), (second, y)] for x, y in points]
         else:
             size = 1 if kind == 6 else rng.choice((2, 2, 3, 5, 63 if rng.random() < 0.1 else 4))
             self.add('length', size)
@@ -1530,17 +1780,17 @@ def request(seed, number):
         if rng.random() < 0.5:
             return 'long words', ('check', words)
         return 'long words', ('judge', words, [0, 0])
-    if style < 0.30:
+    if style < 0.26:
         return 'damaged plan', ('check', damage_plan(rng, Plan(rng)))
-    if style < 0.36:
+    if style < 0.31:
         return 'good plan', ('check', Plan(rng).words)
-    if style < 0.54:
+    if style < 0.49:
         plan = Plan(rng)
         return 'judged', ('judge', plan.words, event_for(rng, plan))
-    if style < 0.58:
+    if style < 0.53:
         plan = Plan(rng)
         return 'damaged, judged', ('judge', damage_plan(rng, plan), event_for(rng, plan))
-    if style < 0.60:
+    if style < 0.55:
         plan = Plan(rng, 64 if rng.random() < 0.1 else None)
         values = []
         for _ in range(many(rng)):
@@ -1549,7 +1799,7 @@ def request(seed, number):
                 event[rng.randrange(len(event))] = rng.choice((65536, -65537, 2147483647, -2147483648))
             values += event
         return 'counted, many', ('count', plan.words, values)
-    if style < 0.64:
+    if style < 0.59:
         plan = Plan(rng)
         values = []
         for _ in range(rng.choice((0, 1, 3, 8))):
@@ -1558,11 +1808,18 @@ def request(seed, number):
             values = values[1:] + rng.choice(([], [0, 0]))
         words = plan.words if rng.random() < 0.85 else damage_plan(rng, plan)
         return 'counted', ('count', words, values)
-    if style < 0.66:
+    if style < 0.61:
         table = small_table(rng)
         words = gates.compile_table(table.bytes(), 4096)[2]
         return 'compiled, judged', ('judge', words, table.event())
-    if style < 0.68:
+    if style < 0.71:
+        table = outline_table(rng)
+        words = gates.compile_table(table.bytes(), 4096)[2]
+        if rng.random() < 0.1:
+            # Malformed only at the end: the steps before could have set their bits.
+            words = rng.choice((words[:-1], words + [0], words[:-1] + [rng.choice(ODD_WORDS)]))
+        return 'outlines, judged', ('judge', words, event_for(rng, table))
+    if style < 0.73:
         table = small_table(rng)
         words = gates.compile_table(table.bytes(), 4096)[2]
         if rng.random() < 0.5:

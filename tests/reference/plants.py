@@ -150,6 +150,238 @@ def first_event_for_all(words, values):
     return number, place, taken, spoilt, counts
 
 
+# ---------------------------------------------------------------- outlines
+
+# None of these changes a member: what is outside stays so, and nothing else becomes it.
+
+def never_on_outline(position):
+    """On the outline said to be inside."""
+    def answer(*given):
+        found = position(*given)
+        return gates.INSIDE if found == gates.ON_OUTLINE else found
+    return answer
+
+
+def edge_sum(vertices, x, y):
+    """01's sum over the edges, whether or not the point is on one."""
+    points = list(zip(vertices[0::2], vertices[1::2]))
+    total = 0
+    for (x0, y0), (x1, y1) in zip(points, points[1:] + points[:1]):
+        s = (x1 - x0) * (y - y0) - (x - x0) * (y1 - y0)
+        total += (y0 <= y < y1 and s > 0) - (y1 <= y < y0 and s < 0)
+    return total
+
+
+def edge_where_sum(wanted):
+    """An edge is outline only where there is a sum, or only where it is 0; else it is inside."""
+    def answer(vertices, x, y):
+        found = _ORIGINAL['polygon_position'](vertices, x, y)
+        if found == gates.ON_OUTLINE and wanted != (edge_sum(vertices, x, y) != 0):
+            return gates.INSIDE
+        return found
+    return answer
+
+
+def inner_edge_inside(vertices, x, y):
+    """A point with nothing but inside around it said to be inside, though an edge runs there.
+
+    Everything is made so much larger that the nine places around the point are
+    nearer to it than any edge that doesn't carry it.
+    """
+    found = _ORIGINAL['polygon_position'](vertices, x, y)
+    if found == gates.ON_OUTLINE:
+        size = 1 << 20
+        larger = [size * value for value in vertices]
+        around = [(size * x + dx, size * y + dy) for dx in (-2, 1, 3) for dy in (-3, 1, 2)]
+        if all(_ORIGINAL['polygon_position'](larger, *place) != gates.OUTSIDE for place in around):
+            return gates.INSIDE
+    return found
+
+
+def edge_carries(carries, enough=lambda times: times > 0):
+    """On the outline by another rule for one edge, or by the number of edges that carry the point."""
+    def answer(vertices, x, y):
+        if _ORIGINAL['polygon_position'](vertices, x, y) == gates.OUTSIDE:
+            return gates.OUTSIDE
+        points = list(zip(vertices[0::2], vertices[1::2]))
+        edges = list(zip(points, points[1:] + points[:1]))
+        times = sum(1 for number, ((x0, y0), (x1, y1)) in enumerate(edges, 1)
+                    if carries(x0, y0, x1, y1, x, y, number == len(edges)))
+        return gates.ON_OUTLINE if enough(times) else gates.INSIDE
+    return answer
+
+
+def on_line(x0, y0, x1, y1, x, y):
+    return (x1 - x0) * (y - y0) == (x - x0) * (y1 - y0)
+
+
+def edge_rule(x0, y0, x1, y1, x, y, last):
+    return (on_line(x0, y0, x1, y1, x, y)
+            and min(x0, x1) <= x <= max(x0, x1) and min(y0, y1) <= y <= max(y0, y1))
+
+
+def without_ends(x0, y0, x1, y1, x, y, last):
+    return edge_rule(x0, y0, x1, y1, x, y, last) and (x, y) not in ((x0, y0), (x1, y1))
+
+
+def ends_only(x0, y0, x1, y1, x, y, last):
+    return (x, y) in ((x0, y0), (x1, y1))
+
+
+def with_length(x0, y0, x1, y1, x, y, last):
+    """An edge without length carries nothing."""
+    return edge_rule(x0, y0, x1, y1, x, y, last) and (x0, y0) != (x1, y1)
+
+
+def not_level(x0, y0, x1, y1, x, y, last):
+    """Edges along x, which the sum passes over, left out."""
+    return edge_rule(x0, y0, x1, y1, x, y, last) and (y0 != y1 or x0 == x1)
+
+
+def not_upright(x0, y0, x1, y1, x, y, last):
+    return edge_rule(x0, y0, x1, y1, x, y, last) and (x0 != x1 or y0 == y1)
+
+
+def not_closing(x0, y0, x1, y1, x, y, last):
+    """The edge from the last vertex to the first left out."""
+    return edge_rule(x0, y0, x1, y1, x, y, last) and not last
+
+
+def x_between_only(x0, y0, x1, y1, x, y, last):
+    return on_line(x0, y0, x1, y1, x, y) and min(x0, x1) <= x <= max(x0, x1)
+
+
+def y_between_only(x0, y0, x1, y1, x, y, last):
+    return on_line(x0, y0, x1, y1, x, y) and min(y0, y1) <= y <= max(y0, y1)
+
+
+def s_in_32_bits(x0, y0, x1, y1, x, y, last):
+    s = (x1 - x0) * (y - y0) - (x - x0) * (y1 - y0)
+    return s % 2 ** 32 == 0 and min(x0, x1) <= x <= max(x0, x1) and min(y0, y1) <= y <= max(y0, y1)
+
+
+def ellipse_sides(sides):
+    """On the rim where two sides reckoned otherwise are equal."""
+    def answer(mean_x, mean_y, c11, c12, c22, d2, x, y):
+        if _ORIGINAL['ellipse_position'](mean_x, mean_y, c11, c12, c22, d2, x, y) == gates.OUTSIDE:
+            return gates.OUTSIDE
+        left, right = sides(x - mean_x, y - mean_y, c11, c12, c22, d2)
+        return gates.ON_OUTLINE if left == right else gates.INSIDE
+    return answer
+
+
+def c12_added_sides(dx, dy, c11, c12, c22, d2):
+    return c22 * dx * dx + 2 * c12 * dx * dy + c11 * dy * dy, d2 * (c11 * c22 - c12 * c12)
+
+
+def sides_in_32_bits(dx, dy, c11, c12, c22, d2):
+    return ((c22 * dx * dx - 2 * c12 * dx * dy + c11 * dy * dy) % 2 ** 32, d2 * (c11 * c22 - c12 * c12) % 2 ** 32)
+
+
+def sides_in_doubles(dx, dy, c11, c12, c22, d2):
+    dx, dy = float(dx), float(dy)
+    return c22 * dx * dx - 2 * c12 * dx * dy + c11 * dy * dy, d2 * (float(c11) * c22 - float(c12) * c12)
+
+
+def upright_only(mean_x, mean_y, c11, c12, c22, d2, x, y):
+    """The rim of a tilted ellipse left out."""
+    found = _ORIGINAL['ellipse_position'](mean_x, mean_y, c11, c12, c22, d2, x, y)
+    return gates.INSIDE if c12 and found == gates.ON_OUTLINE else found
+
+
+def outline_of_all(steps, event, bits):
+    """Set for an event that isn't a member, outside the parent, too."""
+    return _ORIGINAL['outline_bits'](steps, event, (1 << gates.REGIONS) - 1)
+
+
+def outline_out_of_parent(steps, event, bits):
+    """Set for an event on the outline and not in the parent, and for no other that isn't a member."""
+    outline = _ORIGINAL['outline_bits'](steps, event, bits)
+    for kind, region, parent, body in steps:
+        if parent != -1 and not bits >> parent & 1 and gates.on_outline(kind, body, event):
+            outline |= 1 << region
+    return outline
+
+
+def taken_over(takes):
+    """Members of some steps take over an outline bit of the parent or of an operand."""
+    def answer(steps, event, bits):
+        outline = _ORIGINAL['outline_bits'](steps, event, bits)
+        # The steps' own order: what was taken over is taken over again.
+        for kind, region, parent, body in steps:
+            if bits >> region & 1 and any(outline >> other & 1 for other in takes(kind, parent, body)):
+                outline |= 1 << region
+        return outline
+    return answer
+
+
+def operands(kinds):
+    return lambda kind, parent, body: [word // 2 for word in body] if kind in kinds else []
+
+
+def plain_operands(kind, parent, body):
+    """Those without `!`."""
+    return [word // 2 for word in body if word % 2 == 0] if kind >= gates.AND else []
+
+
+def parent_of(kinds):
+    return lambda kind, parent, body: [parent] if kind in kinds and parent != -1 else []
+
+
+def box_with_outline(steps, event, bits):
+    """A box's lower bounds taken for an outline."""
+    outline = _ORIGINAL['outline_bits'](steps, event, bits)
+    for kind, region, parent, body in steps:
+        if kind == gates.BOX and bits >> region & 1:
+            if any(event[dimension] == low for dimension, low in zip(body[0::3], body[1::3])):
+                outline |= 1 << region
+    return outline
+
+
+def outline_by_steps(steps, event, bits):
+    """Numbered by the order of the steps instead of by region."""
+    right = _ORIGINAL['outline_bits'](steps, event, bits)
+    return sum((right >> region & 1) << number for number, (_, region, _, _) in enumerate(steps))
+
+
+def outline_of_32(steps, event, bits):
+    return _ORIGINAL['outline_bits'](steps, event, bits) % 2 ** 32
+
+
+def not_with_parents_outline(steps, event, bits):
+    """An outline bit dropped where the parent has one too."""
+    outline = _ORIGINAL['outline_bits'](steps, event, bits)
+    return sum(1 << region for _, region, parent, _ in steps
+               if outline >> region & 1 and not (parent != -1 and outline >> parent & 1))
+
+
+def refused_with_outline(number):
+    """A judging refused with this number that sets no member, but keeps outline bits."""
+    def answer(words, event):
+        refused, place, bits, outline = _ORIGINAL['judge'](words, event)
+        if refused == number:
+            if refused == 22:
+                steps = steps_before(words, place)
+                n = words[0] if words else 0
+            else:
+                steps, n = gates.plan_steps(words), words[0]
+            if len(event) >= n:
+                event = event[:n]
+                outline = gates.outline_bits(steps, event, gates.event_bits(steps, event))
+        return refused, place, bits, outline
+    return answer
+
+
+def steps_before(words, place):
+    """The whole steps before a bad word."""
+    steps, at = [], 2
+    while at + 4 <= place and at + 4 + words[at + 3] <= place:
+        kind, region, parent, length = words[at:at + 4]
+        steps.append((kind, region, parent, words[at + 4:at + 4 + length]))
+        at += 4 + length
+    return steps
+
+
 # ---------------------------------------------------------------- ashore
 
 def ranges_of_the_well_formed(gate, head):
@@ -371,6 +603,42 @@ PLANTS = {
     'c11-by-range': {'body_word_good': c11_by_range},
     'dimension-twice': {'body_word_good': dimension_twice},
     'odd-polygon-length': {'length_good': odd_polygon_length},
+    # Outlines: only questions `judge` can see these.
+    'edge-said-inside': {'polygon_position': never_on_outline(gates.polygon_position)},
+    'rim-said-inside': {'ellipse_position': never_on_outline(gates.ellipse_position)},
+    'edge-where-sum': {'polygon_position': edge_where_sum(True)},
+    'edge-where-no-sum': {'polygon_position': edge_where_sum(False)},
+    'inner-edge-said-inside': {'polygon_position': inner_edge_inside},
+    'edges-cancel': {'polygon_position': edge_carries(edge_rule, lambda times: times % 2 == 1)},
+    'edge-without-ends': {'polygon_position': edge_carries(without_ends)},
+    'ends-only': {'polygon_position': edge_carries(ends_only)},
+    'edge-without-length': {'polygon_position': edge_carries(with_length)},
+    'level-edge-left-out': {'polygon_position': edge_carries(not_level)},
+    'upright-edge-left-out': {'polygon_position': edge_carries(not_upright)},
+    'closing-edge-left-out': {'polygon_position': edge_carries(not_closing)},
+    'edge-by-x-only': {'polygon_position': edge_carries(x_between_only)},
+    'edge-by-y-only': {'polygon_position': edge_carries(y_between_only)},
+    'edge-in-32-bits': {'polygon_position': edge_carries(s_in_32_bits)},
+    'rim-with-c12-added': {'ellipse_position': ellipse_sides(c12_added_sides)},
+    'rim-in-32-bits': {'ellipse_position': ellipse_sides(sides_in_32_bits)},
+    'rim-in-doubles': {'ellipse_position': ellipse_sides(sides_in_doubles)},
+    'tilted-rim-said-inside': {'ellipse_position': upright_only},
+    'outline-of-non-members': {'outline_bits': outline_of_all},
+    'outline-out-of-parent': {'outline_bits': outline_out_of_parent},
+    'and-takes-over-outline': {'outline_bits': taken_over(operands((gates.AND,)))},
+    'or-takes-over-outline': {'outline_bits': taken_over(operands((gates.OR,)))},
+    'not-takes-over-outline': {'outline_bits': taken_over(operands((gates.NOT,)))},
+    'plain-operand-takes-over': {'outline_bits': taken_over(plain_operands)},
+    'box-takes-over-outline': {'outline_bits': taken_over(parent_of((gates.BOX,)))},
+    'shape-takes-over-outline': {'outline_bits': taken_over(parent_of((gates.POLYGON, gates.ELLIPSE)))},
+    'combination-takes-parents': {'outline_bits': taken_over(parent_of((gates.AND, gates.OR, gates.NOT)))},
+    'box-with-outline': {'outline_bits': box_with_outline},
+    'outline-by-steps': {'outline_bits': outline_by_steps},
+    'outline-of-32-regions': {'outline_bits': outline_of_32},
+    'one-outline-in-a-line': {'outline_bits': not_with_parents_outline},
+    'malformed-keeps-outline': {'judge': refused_with_outline(22)},
+    'ragged-keeps-outline': {'judge': refused_with_outline(23)},
+    'spoilt-keeps-outline': {'judge': refused_with_outline(24)},
 }
 
 

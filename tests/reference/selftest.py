@@ -1,14 +1,16 @@
 #!/usr/bin/env python3
-"""Holds the reference to paper 01's own examples and to itself.
+"""Holds the reference to the papers' own examples and to itself.
 
     tests/reference/selftest.py [--seed S] [--tables N]
 
-First come the examples that 01 prints and small cases at each of its rules; then, for
-random tables, the plan against the lines, other orders of lines, sums of quadrants, and
-other ways of reckoning the same thing.  The last line is "N passed, M failed".
+First come the examples that 01 prints and small cases at each of its rules, and at those of
+02 a on outlines; then, for random tables, the plan against the lines, other orders of lines,
+sums of quadrants, and other ways of reckoning the same thing.  The last line is
+"N passed, M failed".
 """
 
 import argparse
+import collections
 import os
 import random
 import sys
@@ -18,6 +20,7 @@ sys.path.insert(0, os.path.dirname(os.path.abspath(__file__)))
 
 import gates
 import generate
+from gates import INSIDE, ON_OUTLINE, OUTSIDE
 
 passed = failed = 0
 
@@ -57,14 +60,30 @@ def line_fault(label, line, number, head='dims A B', before=()):
     refused(label, tabs(head, *before, line), number, 2 + len(before))
 
 
-def member(table, event, name):
-    """Membership by the lines and by the plan, which must agree; None if they don't."""
+def by_name(bits, names):
+    """The names of the regions whose bit is set; a bit from the number of regions on is kept as a number."""
+    return {names[r] if r < len(names) else r for r in range(bits.bit_length()) if bits >> r & 1}
+
+
+def position(table, event, name):
+    """Outside, inside or on the outline, by the lines and by the plan, which must agree; None if they don't.
+
+    A region without an outline, or an event that is in the shape alone, is outside or inside by membership.
+    """
     number, place, words, names = gates.compile_table(table, 4096)
     by_plan = gates.judge(words, event)
-    by_lines = gates.members(table, event)
-    if by_plan[:2] != (0, 0) or {names[r] for r in range(len(names)) if by_plan[2] >> r & 1} != by_lines:
+    inside, outline = gates.members(table, event), gates.outlined(table, event)
+    if by_plan[:2] != (0, 0) or [by_name(bits, names) for bits in by_plan[2:]] != [inside, outline]:
         return None
-    return name.encode() in by_lines
+    if name.encode() in outline:
+        return ON_OUTLINE if name.encode() in inside else None
+    return INSIDE if name.encode() in inside else OUTSIDE
+
+
+def member(table, event, name):
+    """Membership by the lines and by the plan, which must agree; None if they don't."""
+    found = position(table, event, name)
+    return None if found is None else found != OUTSIDE
 
 
 FORTY = '9' * 40
@@ -421,6 +440,126 @@ def membership():
     check('far along the other', member(far, [65535, -65536], 'F'), True)
 
 
+# ---------------------------------------------------------------- 02 a: on the outline
+
+def positions(label, table, name, on='', inside='', outside=''):
+    """Where some events are, each two numbers, parted by commas."""
+    for events, said in ((on, ON_OUTLINE), (inside, INSIDE), (outside, OUTSIDE)):
+        for event in filter(None, events.split(',')):
+            values = [int(value) for value in event.split()]
+            check('%s, (%s)' % (label, event.strip()), position(table, values, name), said)
+
+
+def on_outlines():
+    example = tabs(*EXAMPLE)
+    positions('Ring', example, 'Ring',
+              on='600 200, 400 375, 344 368', inside='599 200, 350 200', outside='400 376, 343 368')
+    check('Ring and what stands on it', gates.judge(EXAMPLE_PLAN, [344, 368]), (0, 0, 0b10111, 0b00010))
+    check('(600, 200)', gates.judge(EXAMPLE_PLAN, [600, 200]), (0, 0, 0b01010, 0b00010))
+    check('(400, 375)', gates.judge(EXAMPLE_PLAN, [400, 375]), (0, 0, 0b01011, 0b00010))
+    check('(400, 376)', gates.judge(EXAMPLE_PLAN, [400, 376]), (0, 0, 0, 0))
+    check('by its lines', gates.outlined(example, [344, 368]), {b'Ring'})
+    check('a spoilt event by its lines', gates.outlined(example, [70000, 0]), set())
+
+    def poly(vertices):
+        return tabs('dims A B', 'poly P - A B ' + vertices)
+
+    square = '0 0 10 0 10 10 0 10'
+    for label, table in (('a square', poly(square)), ('walked twice', poly(square + ' ' + square)),
+                         ('the other way round', poly('0 10 10 10 10 0 0 0'))):
+        positions(label, table, 'P',
+                  on='10 5, 0 5, 5 0, 5 10, 0 0, 10 0, 10 10, 0 10', inside='5 5, 9 5, 1 9',
+                  outside='11 5, 10 11, -1 0, 11 10, 5 -1')
+    positions('forth and back', poly(square + ' 0 0 0 10 10 10 10 0'), 'P', on='10 3, 0 0', outside='5 5, 11 3')
+    positions('flat', poly('0 0 4 0 8 0'), 'P', on='4 0, 0 0, 8 0, 6 0', outside='4 1, 9 0, -1 0')
+    positions('flat and upright', poly('3 0 3 4 3 -8'), 'P', on='3 4, 3 -8, 3 -5', outside='3 5, 2 0')
+    positions('a point', poly('5 5 5 5 5 5'), 'P', on='5 5', outside='5 4, 6 5')
+    positions('edges without length', poly('0 0 0 0 10 0 10 0 0 10 0 10'), 'P',
+              on='0 0, 5 0, 5 5, 0 10', inside='2 2', outside='8 8')
+    positions('slopes', poly('6 0 0 3 6 9'), 'P', on='2 2, 3 6, 6 4, 0 3', inside='3 3', outside='3 7, 8 -1, 1 2')
+    # The star's level edge parts its core, wound twice, from its upper arm, wound once.
+    positions('inner edge of a star', poly('0 10 6 -8 -10 3 10 3 -6 -8'), 'P',
+              on='0 3, 2 3, 0 10', inside='0 2, 0 4, 0 0', outside='-6 6')
+    positions('where an eight crosses itself', poly('-2 -1 2 1 2 -1 -2 1'), 'P',
+              on='0 0, 2 0, -2 0', inside='1 0, -1 0', outside='0 1, -3 0')
+    positions('a spike into the inside', poly(square + ' 0 0 6 6'), 'P', on='3 3, 6 6, 0 0', inside='7 7, 3 4, 4 3')
+    positions('a square within a square', poly(square + ' 0 0 3 3 7 3 7 7 3 7 3 3'), 'P',
+              on='5 3, 7 5, 2 2, 10 5', inside='5 5, 8 5')
+    positions('the line of an edge beyond its end', poly('0 0 8 0 8 4 4 4 4 8 0 8'), 'P',
+              on='4 4, 6 4, 4 6', inside='4 2, 2 4', outside='5 5')
+    positions('the whole scale', poly('-65536 -65536 65535 65535 -65536 65535'), 'P',
+              on='1 1, -65536 -65536, 65535 65535, -65536 65535, -65536 0', inside='1 2', outside='2 1, 65535 65534')
+    # s is 2 to the 32 there.
+    positions('beyond 32 bits', poly('-65536 -65536 0 32768 -65536 32768'), 'P',
+              on='-65534 -65533', inside='-65534 3', outside='-65534 -65534')
+    swapped = tabs('dims A B', 'poly P - B A 0 0 9 0 9 3 0 3')
+    positions('dimensions in the order of the line', swapped, 'P', on='3 8', inside='2 8', outside='8 3')
+
+    def ellip(fields):
+        return tabs('dims A B', 'ellip E - A B ' + fields)
+
+    positions('a circle', ellip('0 0 25 0 25 1'), 'E',
+              on='5 0, 3 4, -4 3, 0 -5', inside='3 3, 0 0', outside='4 4, 6 0')
+    positions('slanting', ellip('0 0 2 1 1 1'), 'E',
+              on='1 1, 1 0, -1 -1, -1 0', inside='0 0', outside='2 1, 0 1, 1 -1')
+    positions('slanting and wider', ellip('10 20 2 1 1 5'), 'E',
+              on='11 19, 13 21, 13 22, 11 22, 9 21', inside='12 21, 12 22, 10 21', outside='13 23, 13 20, 11 18')
+    positions('slanting the other way', ellip('0 0 2 -1 1 5'), 'E', on='1 1, 3 -1', inside='1 -1', outside='3 1')
+    positions('as wide as the scale', ellip('-65536 -65536 16777216 0 16777216 961'), 'E',
+              on='61440 -65536, -65536 61440', inside='61439 -65536, -65536 -65536', outside='61441 -65536')
+
+    # Members only, and of the region's own shape.
+    parents = tabs('dims A B', 'rect B - A 0 10', 'poly P B A B ' + square, 'ellip E P A B 0 0 25 0 25 4',
+                   'poly In P A B -5 -5 15 -5 15 15 -5 15', 'not N - P', 'poly M N A B ' + square, 'rect C P A * *',
+                   'quad Q P 1 B 1 0 Lo -1 Hi 0')
+    most = 'B P E In C Hi'
+    for event, inside, outline in (([10, 5], 'N M', 'M'), ([0, 5], most, 'P'), ([5, 0], most, 'P'),
+                                   ([10, 0], 'N M', 'M'), ([0, 10], most, 'P E'), ([6, 8], most, 'E'),
+                                   ([8, 6], most, 'E'), ([-6, 8], 'N', ''), ([5, 5], most, ''),
+                                   ([15, 5], 'N', ''), ([0, -5], 'B N', '')):
+        check('members with parents at %s' % event, gates.members(parents, event), words_of(inside))
+        check('outlines with parents at %s' % event, gates.outlined(parents, event), words_of(outline))
+        check('and by the plan', position(parents, event, 'P') is not None, True)
+    same = tabs('dims A B', 'poly P - A B ' + square, 'poly K P A B ' + square, 'poly L K A B 5 5 10 0 20 0')
+    check('parent and child on the same edge', gates.outlined(same, [10, 5]), words_of('P K'))
+    check('all three at a corner', gates.outlined(same, [10, 0]), words_of('P K L'))
+    check('on the youngest alone', gates.outlined(same, [6, 4]), words_of('L'))
+
+    combined = tabs('dims A B', 'poly P - A B ' + square, 'ellip E - A B 5 5 25 0 25 1', 'and And - P E',
+                    'or Or - P !E', 'not Not - !P', 'not Out - P', 'and Twice - P P', 'or Child P P Out',
+                    'rect Box - A 10 20', 'and Boxes P Box Box')
+    for event, inside, outline in (([10, 5], 'P E And Or Not Twice Child Box Boxes', 'P E'),
+                                   ([10, 4], 'P Or Not Twice Child Box Boxes', 'P'),
+                                   ([8, 9], 'P E And Or Not Twice Child', 'E'),
+                                   ([5, 5], 'P E And Or Not Twice Child', ''), ([10, 11], 'Or Out Box', '')):
+        check('combinations at %s' % event, gates.members(combined, event), words_of(inside))
+        check('outlines of combinations at %s' % event, gates.outlined(combined, event), words_of(outline))
+        check('and by the plan', position(combined, event, 'P') is not None, True)
+
+    bounds = tabs('dims A B', 'rect R - A 0 10 B 0 10', 'quad Q - 1 A 1 5 L 4 H 5')
+    for event in ([0, 0], [9, 9], [5, 0], [4, 9]):
+        check('boxes and quadrants have none, %s' % event, gates.outlined(bounds, event), set())
+        check('and by the plan', gates.judge(gates.compile_table(bounds, 4096)[2], event)[3], 0)
+    last = tabs('dims A B', *['rect R%d - A * *' % k for k in range(63)], 'poly P - A B ' + square)
+    check('region 63', gates.judge(gates.compile_table(last, 4096)[2], [10, 5]), (0, 0, 2 ** 64 - 1, 2 ** 63))
+
+    # After a refusal neither set has a bit.
+    deep = gates.compile_table(tabs('dims A B C', 'ellip E - A B 65535 0 1 0 1 1', 'poly P - A B 65535 0 65535 1 0 0'),
+                               4096)[2]
+    check('on both', gates.judge(deep, [65535, 1, 0]), (0, 0, 3, 3))
+    check('on both, spoilt', gates.judge(deep, [65535, 1, 65536]), (24, 2, 0, 0))
+    check('on a rim off the scale', gates.judge(deep, [65536, 0, 0]), (24, 0, 0, 0))
+    check('on both, too short', gates.judge(deep, [65535, 1]), (23, 2, 0, 0))
+    check('on both, too long', gates.judge(deep, [65535, 1, 0, 0]), (23, 4, 0, 0))
+    check('on both, a word left over', gates.judge(deep + [0], [65535, 1, 0]), (22, len(deep), 0, 0))
+    check('on both, cut off', gates.judge(deep[:-1], [65535, 1, 0]), (22, len(deep) - 1, 0, 0))
+    check('on both, too long a plan', gates.judge(deep + [0] * 4096, [65535, 1, 0]), (21, 0, 0, 0))
+
+
+def words_of(line):
+    return {name.encode() for name in line.split()}
+
+
 # ---------------------------------------------------------------- 01, "The plan": aboard
 
 def plans():
@@ -507,14 +646,14 @@ def plans():
     for end in range(len(EXAMPLE_PLAN)):
         form('the example cut off after %d' % end, EXAMPLE_PLAN[:end], end)
 
-    check('judging', gates.judge(EXAMPLE_PLAN, [350, 200]), (0, 0, 0b10111))
-    check('judging an event too short', gates.judge(EXAMPLE_PLAN, [350]), (23, 1, 0))
-    check('judging an event too long', gates.judge(EXAMPLE_PLAN, [350, 70000, 1]), (23, 3, 0))
-    check('judging an event of nothing', gates.judge(EXAMPLE_PLAN, []), (23, 0, 0))
-    check('judging a spoilt event', gates.judge(EXAMPLE_PLAN, [350, 65536]), (24, 1, 0))
-    check('first bad value', gates.judge(EXAMPLE_PLAN, [-65537, 65536]), (24, 0, 0))
-    check('malformed before ragged', gates.judge(EXAMPLE_PLAN[:7], []), (22, 7, 0))
-    check('long before all', gates.judge([0] * 4097, []), (21, 0, 0))
+    check('judging', gates.judge(EXAMPLE_PLAN, [350, 200]), (0, 0, 0b10111, 0))
+    check('judging an event too short', gates.judge(EXAMPLE_PLAN, [350]), (23, 1, 0, 0))
+    check('judging an event too long', gates.judge(EXAMPLE_PLAN, [350, 70000, 1]), (23, 3, 0, 0))
+    check('judging an event of nothing', gates.judge(EXAMPLE_PLAN, []), (23, 0, 0, 0))
+    check('judging a spoilt event', gates.judge(EXAMPLE_PLAN, [350, 65536]), (24, 1, 0, 0))
+    check('first bad value', gates.judge(EXAMPLE_PLAN, [-65537, 65536]), (24, 0, 0, 0))
+    check('malformed before ragged', gates.judge(EXAMPLE_PLAN[:7], []), (22, 7, 0, 0))
+    check('long before all', gates.judge([0] * 4097, []), (21, 0, 0, 0))
     zeros = [0] * 64
     check('counting', gates.count(EXAMPLE_PLAN, [600, 200, 70000, 0]), (0, 0, 1, 1, [0, 1, 0, 1] + [0] * 60))
     check('counting a ragged list', gates.count(EXAMPLE_PLAN, [600, 200, 1]), (23, 3, 0, 0, zeros))
@@ -617,48 +756,85 @@ def on_outline(vertices, x, y):
     return False
 
 
+def polygon_said(vertices, x, y):
+    """Where a point is, by shares of edges and by turns."""
+    if on_outline(vertices, x, y):
+        return ON_OUTLINE
+    return INSIDE if winding(vertices, x, y) != 0 else OUTSIDE
+
+
+def ellipse_said(mx, my, c11, c12, c22, d2, x, y):
+    """Where a point is, by 000's own form, with the inverse of the matrix."""
+    dx, dy = x - mx, y - my
+    det = c11 * c22 - c12 * c12
+    inverse = (Fraction(c22, det), Fraction(-c12, det), Fraction(c11, det))
+    distance = dx * (inverse[0] * dx + inverse[1] * dy) + dy * (inverse[1] * dx + inverse[2] * dy)
+    return ON_OUTLINE if distance == d2 else INSIDE if distance < d2 else OUTSIDE
+
+
 def outlines(seed):
     """The polygon's sum against turns round the point; the ellipse against 000's own form."""
     rng = random.Random('%s outlines' % seed)
-    inside = on_edge = 0
+    met = collections.Counter()
+
+    def polygon(vertices, x, y):
+        wanted = polygon_said(vertices, x, y)
+        met['polygon', wanted] += 1
+        check('polygon %s at %d %d' % (vertices, x, y), gates.polygon_position(vertices, x, y), wanted)
+        check('polygon %s holds %d %d' % (vertices, x, y), gates.polygon_holds(vertices, x, y), wanted != OUTSIDE)
+
+    def ellipse(fields, x, y):
+        wanted = ellipse_said(*fields, x, y)
+        met['ellipse', wanted] += 1
+        check('ellipse %s at %d %d' % (fields, x, y), gates.ellipse_position(*fields, x, y), wanted)
+        check('ellipse %s holds %d %d' % (fields, x, y), gates.ellipse_holds(*fields, x, y), wanted != OUTSIDE)
+
     for _ in range(300):
         table = generate.Table(rng, n=2, span=rng.choice(((-5, 5), (-9, 9), (-65536, 65535))))
         line = table.poly()
         vertices = [int(field) for field in line.fields[5:]]
         x_first = line.fields[3] == table.dimensions[0]
         for event in table.events(12):
-            x, y = event if x_first else event[::-1]
-            edge = on_outline(vertices, x, y)
-            wanted = edge or winding(vertices, x, y) != 0
-            on_edge += edge
-            inside += wanted
-            check('polygon %s at %d %d' % (vertices, x, y), gates.polygon_holds(vertices, x, y), wanted)
-    check('events on edges and inside were met', on_edge > 300 and inside > on_edge + 100, True)
-    rims = 0
+            polygon(vertices, *(event if x_first else event[::-1]))
     for _ in range(300):
         table = generate.Table(rng, n=2)
         line = table.ellip()
-        mx, my, c11, c12, c22, d2 = [int(field) for field in line.fields[5:]]
+        fields = [int(field) for field in line.fields[5:]]
         x_first = line.fields[3] == table.dimensions[0]
         for event in table.events(8):
-            x, y = event if x_first else event[::-1]
-            dx, dy = x - mx, y - my
-            det = c11 * c22 - c12 * c12
-            inverse = (Fraction(c22, det), Fraction(-c12, det), Fraction(c11, det))
-            distance = dx * (inverse[0] * dx + inverse[1] * dy) + dy * (inverse[1] * dx + inverse[2] * dy)
-            rims += distance == d2
-            check('ellipse %s at %d %d' % (line.fields[5:], x, y),
-                  gates.ellipse_holds(mx, my, c11, c12, c22, d2, x, y), distance <= d2)
-    check('events on rims were met', rims > 100, True)
+            ellipse(fields, *(event if x_first else event[::-1]))
+    for _ in range(200):
+        x, y = rng.choice(((0, 0), (7, -30), (40000, -65536), (65535, 65535)))
+        vertices = [value for point in generate.outline_through(rng, x, y) for value in point]
+        means, entries, d2 = generate.ellipse_through(rng, x, y)
+        for event in ((x, y), (x + 1, y), (x - 1, y + 1), (x, y - 1)):
+            polygon(vertices, *event)
+            ellipse([*means, *entries, d2], *event)
+    # Every place near a small outline.
+    for _ in range(60):
+        points = generate.outline(rng, lambda: rng.randint(-3, 3))
+        if rng.random() < 0.5:
+            points = generate.inner_outline(rng)
+        for x in range(-5, 6):
+            for y in range(-5, 6):
+                polygon([value for point in points for value in point], x, y)
+        matrix, d2, _ = generate.rim_matrix(rng)
+        for x in range(-4, 5):
+            for y in range(-4, 5):
+                ellipse([0, 0, *matrix, d2], x, y)
+    for shape in ('polygon', 'ellipse'):
+        for said in (OUTSIDE, INSIDE, ON_OUTLINE):
+            check('%s, %s was met' % (shape, said), met[shape, said] > 400, True)
 
 
 def accepted_tables(seed, count):
     """Plan against lines, orders of lines, sums of quadrants, order of steps."""
-    makers = (generate.small_table, generate.referring_table, generate.referring_table, generate.chain_table,
-              generate.full_table, generate.wide_table)
+    makers = (generate.small_table, generate.referring_table, generate.referring_table, generate.outline_table,
+              generate.chain_table, generate.full_table, generate.wide_table)
+    outlined_events = 0
     for number in range(count):
         rng = random.Random('%s table %d' % (seed, number))
-        maker = rng.choices(makers, (8, 8, 8, 1, 1, 1))[0]
+        maker = rng.choices(makers, (8, 8, 8, 8, 1, 1, 1))[0]
         table = maker(rng)
         data = table.bytes()
         where = 'table %d: ' % number
@@ -674,32 +850,42 @@ def accepted_tables(seed, count):
         check(where + 'a word more', gates.check_plan(words + [0])[1] if len(words) < 4096 else len(words), len(words))
 
         events = table.events(12)
-        member_of = gates.membership(data)
-        by_name = {name: 0 for name in names}
+        member_of, outline_of = gates.membership(data), gates.outlines(data)
+        with_outline = {line.fields[1] for line in table.lines if line.kind in (b'poly', b'ellip')}
+        counts = {name: 0 for name in names}
         for event in events:
-            inside = member_of(event)
+            inside, outline = member_of(event), outline_of(event)
+            outlined_events += outline != set()
+            check(where + 'members on outlines of polygons and ellipses', outline <= inside & with_outline, True)
             for name in inside:
-                by_name[name] += 1
-            bits = sum(1 << region for region, name in enumerate(names) if name in inside)
+                counts[name] += 1
+            sets = [sum(1 << region for region, name in enumerate(names) if name in found)
+                    for found in (inside, outline)]
             bad = [at for at, value in enumerate(event) if not -65536 <= value <= 65535]
-            wanted = (24, bad[0], 0) if bad else (0, 0, bits)
+            wanted = (24, bad[0], 0, 0) if bad else (0, 0, *sets)
             check(where + 'event %s' % event, gates.judge(words, event), wanted)
         taken = sum(1 for event in events if all(-65536 <= value <= 65535 for value in event))
         flat = [value for event in events for value in event]
-        wanted = [by_name[name] for name in names] + [0] * (64 - len(names))
+        wanted = [counts[name] for name in names] + [0] * (64 - len(names))
         check(where + 'tally', gates.count(words, flat), (0, 0, taken, len(events) - taken, wanted))
 
         list_ = b'events\n' + generate.join(generate.event_lines(events))
         printed = printed_by_name(gates.gatecount(data + list_))
-        check(where + 'printed', printed, (by_name, taken, len(events) - taken))
+        check(where + 'printed', printed, (counts, taken, len(events) - taken))
         lines = [table.head()] + [line.bytes() for line in table.lines]
         for other in generate.orders(rng, lines, 3):
             check(where + 'another order', printed_by_name(gates.gatecount(other + list_)), printed)
+            other_words, other_names = gates.compile_table(other, 4096)[2:]
+            for event in events:
+                check(where + 'another order, event %s' % event,
+                      [by_name(bits, other_names) for bits in gates.judge(other_words, event)[2:]],
+                      [member_of(event), outline_of(event)])
         for line in table.lines:
             if line.kind == b'quad':
-                whole = taken if line.fields[2] == b'-' else by_name[line.fields[2]]
-                total = sum(by_name[line.fields[at]] for at in line.places('quadrant'))
+                whole = taken if line.fields[2] == b'-' else counts[line.fields[2]]
+                total = sum(counts[line.fields[at]] for at in line.places('quadrant'))
                 check(where + 'quadrants add up', total, whole)
+    check('events on outlines were met', outlined_events > 2 * count, True)
 
 
 def printed_by_name(output):
@@ -759,6 +945,17 @@ def generated(seed, count):
     check('every refusal of the program was met', met, set(range(18)) | {23})
 
 
+def outline_bits(words, event):
+    """The steps on whose shape's outline an event is, member or not, by the other ways of reckoning."""
+    bits = 0
+    for kind, region, _, body in gates.plan_steps(words):
+        if kind in (2, 3):
+            said = polygon_said(body[2:], event[body[0]], event[body[1]]) if kind == 2 else ellipse_said(
+                *body[2:], event[body[0]], event[body[1]])
+            bits |= (said == ON_OUTLINE) << region
+    return bits
+
+
 def random_plans(seed, count):
     """Plans made directly pass; each role's damage is met; a place is where 01 puts it."""
     met = set()
@@ -766,6 +963,9 @@ def random_plans(seed, count):
         rng = random.Random('%s plan %d' % (seed, number))
         plan = generate.Plan(rng)
         check('plan %d' % number, gates.check_plan(plan.words), (0, 0))
+        for event in (plan.event(), plan.event()):
+            _, _, bits, outline = gates.judge(plan.words, event)
+            check('outlines of plan %d at %s' % (number, event), outline, bits & outline_bits(plan.words, event))
         words = generate.damage_plan(rng, plan)
         refusal, place = gates.check_plan(words)
         if refusal == 22:
@@ -788,6 +988,7 @@ def main():
     quadrants()
     whole_tables()
     membership()
+    on_outlines()
     plans()
     program()
     outlines(options.seed)
