@@ -6,14 +6,17 @@
 
 The events are made up, not measured: clusters of cells and beads on a 16 bit scale, drawn
 from a fixed seed. Only random() and whole numbers are used, so every run writes the same bytes.
+`rim` has the same clusters on 256 channels, so that one unit can be seen in a picture.
 """
 
+import math
 import os
 import random
 import sys
 
 HERE = os.path.dirname(os.path.abspath(__file__))
 SCALE = 65535
+CHANNEL = 256           # units of the scale in one of its 256 channels
 
 DIMENSIONS = ('FSC', 'SSC', 'RED', 'ORANGE')
 
@@ -59,7 +62,7 @@ def columns(lines):
     return [DIMENSIONS.index(name) for name in lines[0][1:]]
 
 
-# Each gives its table, the number of cells of each cluster, and events that are listed by hand.
+# Each gives its table, the number of cells of each cluster, and events that are listed after the cells.
 
 def quadrants():
     lines = table(
@@ -123,13 +126,51 @@ def boolean():
     return lines, numbers, []
 
 
+def beyond(ellipse, x, y):
+    """The left side of an ellipse's rule less the right one: 0 on the rim, above it outside."""
+    mean_x, mean_y, c11, c12, c22, d2 = ellipse
+    dx, dy = x - mean_x, y - mean_y
+    return c22 * dx * dx - 2 * c12 * dx * dy + c11 * dy * dy - d2 * (c11 * c22 - c12 * c12)
+
+
+def rim_points(ellipse):
+    """Every point of the rim that has whole coordinates."""
+    mean_x, mean_y, c11, _, c22, d2 = ellipse
+    half_x, half_y = math.isqrt(d2 * c11), math.isqrt(d2 * c22)
+    return [(x, y) for x in range(mean_x - half_x, mean_x + half_x + 1)
+            for y in range(mean_y - half_y, mean_y + half_y + 1) if beyond(ellipse, x, y) == 0]
+
+
+def rim():
+    lines = table(
+        'dims FSC RED',
+        'ellip Syn - FSC RED 53 84 34 21 45 4',
+    )
+    numbers = {'synechococcus': 50}
+    ellipse = [int(field) for field in lines[1][5:]]
+    edge = []
+    # Each point of the rim, then one channel further out and one further in.
+    for x, y in rim_points(ellipse):
+        inner, outer = sorted((x - 1, x + 1), key=lambda beside: beyond(ellipse, beside, y))
+        edge += [(x, y), (outer, y), (inner, y)]
+    return lines, numbers, edge
+
+
 MADE = {'quadrants': quadrants, 'polygon': polygon, 'ellipses': ellipses, 'boolean': boolean}
+
+# In channels. Not in MADE, from which bench/ makes loads of the whole scale.
+IN_CHANNELS = {'rim': rim}
+NAMES = [*MADE, *IN_CHANNELS]
 
 
 def text(name):
-    lines, numbers, edge = MADE[name]()
+    lines, numbers, edge = (MADE.get(name) or IN_CHANNELS[name])()
     cells = sample(random.Random('gate counter: ' + name), numbers)
     events = [[values[column] for column in columns(lines)] for values in cells]
+    if name in IN_CHANNELS:
+        # One cell at most in a place, and none where an event is listed: on the rim are the listed ones only.
+        places = dict.fromkeys(tuple(value // CHANNEL for value in event) for event in events)
+        events = [place for place in places if place not in edge]
     rows = lines + [['events']] + [[str(value) for value in event] for event in events + edge]
     return ''.join('\t'.join(row) + '\n' for row in rows).encode()
 
@@ -138,7 +179,7 @@ def main():
     if sys.argv[1:]:
         sys.stdout.buffer.write(text(sys.argv[1]))
         return
-    for name in MADE:
+    for name in NAMES:
         with open(os.path.join(HERE, name + '.txt'), 'wb') as file:
             file.write(text(name))
 

@@ -17,9 +17,13 @@ parents that are drawn. `and`, `or` and `not` have no outline and stand in the l
 Events: a dot has the colour of the first region in the table that the event is a member of. A spoilt event
 is a cross; where its values lie off the picture, at the frame.
 
-The legend has gatecount's names and counts, and how many events taken are in no region.
+Outlines: a dot is circled when the event is a member of a region and on the outline of that region's own shape,
+an edge of its polygon or the rim of its ellipse, drawn or not. Boxes, quadrants and combinations have none.
 
-Tables are read, and members decided, by the reference program in tests/reference, not by the proved one;
+The legend has gatecount's names and counts, how many events taken are in no region and, where there are
+some, how many are on an outline.
+
+Tables are read, and members and outlines decided, by the reference program in tests/reference, not by the proved one;
 tests/users compares the counts of the legend with those of gatecount.
 """
 
@@ -42,7 +46,7 @@ SHORT_LIST = 60         # up to so many events each dot is kept in sight
 
 # The colours that Okabe and Ito chose for readers with any colour vision; grey and black are kept apart.
 COLOURS = ('#0072b2', '#e69f00', '#009e73', '#cc79a7', '#56b4e9', '#d55e00', '#b8a500', '#7a5cc9')
-NO_REGION, SPOILT = '#8a8a8a', '#000000'
+NO_REGION, SPOILT, CIRCLE = '#8a8a8a', '#000000', '#222'
 
 
 class Refused(Exception):
@@ -51,11 +55,11 @@ class Refused(Exception):
 
 # ---------------------------------------------------------------- the input
 
-Input = collections.namedtuple('Input', 'head gates events members spoilt counts')
+Input = collections.namedtuple('Input', 'head gates events members outlines spoilt counts')
 
 
 def read_input(data):
-    """The table and the events of an input of gatecount, and whom each region holds."""
+    """The table and the events of an input of gatecount, whom each region holds and who is on its outline."""
     if len(data) > gates.INPUT_BYTES:
         raise Refused('refused\t1\t0')
     table, lines, events_line, closed = gates.part_input(data)
@@ -71,11 +75,12 @@ def read_input(data):
         if event is None:
             raise Refused('refused\t23\t%d' % (events_line + offset))
         events.append(event)
-    names_of = gates.membership(table)
+    names_of, outlines_of = gates.membership(table), gates.outlines(table)
     members = [names_of(event) for event in events]
+    outlines = [outlines_of(event) for event in events]
     spoilt = [gates.is_spoilt(event) for event in events]
     counts = {name: sum(name in held for held in members) for name in names}
-    return Input(head, table_gates, events, members, spoilt, counts)
+    return Input(head, table_gates, events, members, outlines, spoilt, counts)
 
 
 # ---------------------------------------------------------------- shapes in data coordinates
@@ -447,11 +452,16 @@ class Picture:
     def draw_events(self):
         places = [self.place_of(place) for place in range(len(self.given.events))]
         first = {region.name: number for number, region in reversed(list(enumerate(self.regions)))}
-        for place, event in enumerate(self.given.events):
-            members, spoilt = self.given.members[place], self.given.spoilt[place]
+        order, circles = range(len(places)), []
+        if len(places) > SHORT_LIST:        # no other dot covers one that is on an outline
+            order = sorted(order, key=lambda place: bool(self.given.outlines[place]))
+        for place in order:
+            event, members, outlines = self.given.events[place], self.given.members[place], self.given.outlines[place]
+            spoilt = self.given.spoilt[place]
             x, y = places[place]
             self.dot_places.append((x - 4, x + 4, y - 4, y + 4))
-            names = [region.name.decode() for region in self.regions if region.name in members]
+            names = [region.name.decode() + ' (on its outline)' * (region.name in outlines)
+                     for region in self.regions if region.name in members]
             what = 'spoilt' if spoilt else ', '.join(names) or 'in no region'
             shown = ' '.join(str(value) if abs(value) < 2 ** 31 else 'beyond 32 bits' for value in event)
             title = '<title>event %d (%s): %s</title>' % (place + 1, shown, escape(what))
@@ -460,8 +470,19 @@ class Picture:
                     at(x - 4), at(y - 4), SPOILT, title))
                 continue
             colour = self.regions[min(first[name] for name in members)].colour if members else NO_REGION
+            radius = self.radius(place, places)
             self.add('<circle cx="%s" cy="%s" r="%s" fill="%s" stroke="#fff" stroke-width="0.7">%s</circle>' % (
-                at(x), at(y), at(self.radius(place, places)), colour, title))
+                at(x), at(y), at(radius), colour, title))
+            if outlines:
+                circles.append((x, y, radius))
+        for x, y, radius in circles:        # above all dots
+            self.circle(x, y, radius)
+            self.dot_places.append((x - radius - 3, x + radius + 3, y - radius - 3, y + radius + 3))
+
+    def circle(self, x, y, radius):
+        """The mark around a dot that is on an outline."""
+        self.add('<circle class="outline" cx="%s" cy="%s" r="%s" fill="none" stroke="%s" stroke-width="1.5"/>' % (
+            at(x), at(y), at(radius + 2.4), CIRCLE))
 
     def legend_width(self):
         wide = [24 + 9 * len(region.name) + 7 * len(region.note) + 12 + 9 * len(figures(self.given.counts[region.name]))
@@ -493,6 +514,14 @@ class Picture:
         taken, spoilt = self.given.spoilt.count(False), self.given.spoilt.count(True)
         self.add('<path d="M%s %sH%s" stroke="#ccc"/>' % (at(left), at(y - 13), at(right)))
         y += 4
+        outlined = sum(map(bool, self.given.outlines))
+        if outlined:
+            self.add('<g data-outlined="%d">' % outlined)
+            self.circle(left + 8, y - 4.5, 3)
+            self.text(left + 24, y, 'on an outline', 'note')
+            self.text(right, y, figures(outlined), 'note', ' text-anchor="end"')
+            self.add('</g>')
+            y += ROW
         self.add('<circle cx="%s" cy="%s" r="3" fill="%s"/>' % (at(left + 8), at(y - 4.5), NO_REGION))
         self.text(left + 24, y, 'in no region', 'note')
         self.text(right, y, figures(alone), 'note', ' text-anchor="end"')
@@ -507,6 +536,8 @@ class Picture:
             self.add('</g>')
             y += ROW
         notes = ['A dot has the colour of the first region', 'in the table that holds the event.']
+        if outlined:
+            notes += ['Circled: on the outline of a region', 'that holds the event.']
         if any(shape[0] == 'box' for shape in (region.shape for region in self.drawn.values())):
             notes += ['Solid edge: in the box; dashed: not.']
         if len(self.drawn) < len(self.regions):
