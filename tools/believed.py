@@ -17,6 +17,8 @@ BEGIN, END = '<!-- tools/believed.py writes from here -->\n', '<!-- to here -->\
 DOCUMENT = 'docs/DEMANDS.md'
 DEMANDS = 'integers plans counter text gates tables compiler counttable'.split()
 GROUPS = (('Demands 1 to 3', DEMANDS), ("The programs' text", None), ('The rows of the C interface', 'gatec gatejudge gatecompile'.split()))
+# The files that a request brought; those that were there before and that it changed stay where they were.
+REQUESTS = {'a': 'counter/specs/Outlines counter/specs/Positions gates/specs/Outlines tables/specs/Judging tables/specs/Outlines'.split()}
 
 
 def crates():
@@ -42,14 +44,20 @@ def files(crate):
     return [(path, lines(path)) for path in sorted(glob.glob('crates/%s/specs/*.antt' % crate)) if lines(path)]
 
 
+def table(name, found):
+    rows = ['| `%s` | %d | %s |\n' % (path, count, title(path).replace('|', '\\|')) for path, count in found]
+    return '\n%s: %d lines.\n\n| file | lines | what it says |\n|---|---|---|\n' % (name, sum(count for _, count in found)) + ''.join(rows)
+
+
 def tables():
     text = []
     listed = [crate for _, some in GROUPS for crate in some or []]
+    brought = {'crates/%s.antt' % name: letter for letter, names in REQUESTS.items() for name in names}
     for name, some in GROUPS:
-        found = [(crate, each) for crate in crates() if crate in (some or []) or some is None and crate not in listed for each in files(crate)]
-        total = sum(count for _, (_, count) in found)
-        text.append('\n%s: %d lines.\n\n| file | lines | what it says |\n|---|---|---|\n' % (name, total))
-        text.extend('| `%s` | %d | %s |\n' % (path, count, title(path).replace('|', '\\|')) for _, (path, count) in found)
+        text.append(table(name, [each for crate in crates() if crate in (some or []) or some is None and crate not in listed
+                                 for each in files(crate) if each[0] not in brought]))
+        if some is DEMANDS:
+            text.extend(table('Request %s' % letter, [(path, lines(path)) for path in brought if brought[path] == letter]) for letter in REQUESTS)
     return ''.join(text) + '\n'
 
 
