@@ -50,4 +50,12 @@ returns c =
     )
 
 pub event-ellipse-position-spec : {M : Type 1} → statement M
-event-ellipse-position-spec = tie.close (tie.spec (λ c. search needs) (λ c. search needs) (λ c. search needs) (λ c. search needs) ellipse-position-requires returns)
+event-ellipse-position-spec =
+    tie.close
+    (tie.spec
+    (λ c. search needs)
+    (λ c. search needs)
+    (λ c. search needs)
+    (λ c. search needs)
+    ellipse-position-requires
+    returns)
