@@ -1,0 +1,150 @@
+-- Laws that go by the kind of a step: a new kind has a row in each of them, and in no other law of a plan.
+use mathlib.Core.Path.{_≡_, refl, sym}
+use mathlib.Core.Bool.{Bool, true, false, cond, _&&_}
+use mathlib.Core.List.{List}
+use Prim.Native.Nat.{ℕ, _+_, _*_, _/_, _%_, _<_, _≤_}
+use native.Mathlib.Omega.{arith}
+use lib.Dec.{eqb, ltb, leb}
+use lib.IntN.{ℤ, pos, negsuc, natAbs}
+use lib.Signed.{leZ}
+use borrow.Author.Tests.{le-leb, leb-true, ltb-true, eqb-true}
+use Rattle.integers.specs.Range.{inRange}
+use Rattle.plans.specs.Words.{word, number, onScale}
+use Rattle.plans.specs.Form.{earlier, dimensionGood, boxWord, polygonWord, entry, matrixWord, ellipseWord, operandWord, bodyWord}
+use Rattle.plans.specs.Kinds.{kindOf, kindNumber, known, spans, spansBy, lengthGood}
+use Rattle.plans.specs.declared.Kind.{Kind}
+use Rattle.plans.specs.declared.Kind.the-variants.{Box, Polygon, Ellipse, And, Or, Not, Unknown}
+use Rattle.plans.proofs.IndexLaws.{clash, and-both}
+
+-- ---- a kind's number
+
+-- a kind is that of its number
+pub kind-back : (kind : Kind) → kindOf (kindNumber kind) ≡ kind
+unfolding kindOf
+kind-back Box = refl
+kind-back Polygon = refl
+kind-back Ellipse = refl
+kind-back And = refl
+kind-back Or = refl
+kind-back Not = refl
+kind-back Unknown = refl
+
+-- the number that is asked for, or one of those behind it
+or-later : (k n : ℕ) (kind rest : Kind) → n ≤ 4096 → (known rest ≡ true → k ≤ 4096) → known (cond (eqb k n) kind rest) ≡ true → k ≤ 4096
+or-later k n kind rest few later = go (eqb k n) refl
+  where
+    go : (b : Bool) → eqb k n ≡ b → known (cond b kind rest) ≡ true → k ≤ 4096
+    go true e w = omega (arith, eqb-true k n e)
+    go false e w = later w
+
+-- the number of a kind that is known is small
+pub known-number : (k : ℕ) → known (kindOf k) ≡ true → k ≤ 4096
+unfolding kindOf
+known-number k =
+    or-later k 1 Box _ (omega arith)
+    (or-later k 2 Polygon _ (omega arith)
+    (or-later k 3 Ellipse _ (omega arith)
+    (or-later k 4 And _ (omega arith)
+    (or-later k 5 Or _ (omega arith)
+    (or-later k 6 Not _ (omega arith)
+    (λ w. absurd (clash (sym w))))))))
+
+-- ---- the length of a body
+
+pub spans-both : (lo hi m : ℕ) → spans lo hi m ≡ true → (lo ≤ m) × (m ≤ hi)
+unfolding spans
+spans-both lo hi m e = let s = and-both (leb lo m) (leb m hi) e in (leb-true lo m (s .0), leb-true m hi (s .1))
+
+pub by-both : (s lo hi m : ℕ) → spansBy s lo hi m ≡ true → (lo ≤ m) × (m ≤ hi) × (m % s ≡ 0)
+unfolding spansBy
+by-both s lo hi m e =
+    let a = and-both (spans lo hi m) (eqb (m % s) 0) e in
+    let b = spans-both lo hi m (a .0) in
+    (b .0, b .1, eqb-true (m % s) 0 (a .1))
+
+-- no body is empty or longer than a plan
+pub length-range : (kind : Kind) (m : ℕ) → lengthGood kind m ≡ true → (1 ≤ m) × (m ≤ 4096)
+length-range Box m e = let h = by-both 3 3 24 m e in (omega arith, omega arith)
+length-range Polygon m e = let h = by-both 2 8 514 m e in (omega arith, omega arith)
+length-range Ellipse m e = let h = eqb-true m 8 e in (omega arith, omega arith)
+length-range And m e = let h = spans-both 2 63 m e in (omega arith, omega arith)
+length-range Or m e = let h = spans-both 2 63 m e in (omega arith, omega arith)
+length-range Not m e = let h = eqb-true m 1 e in (omega arith, omega arith)
+length-range Unknown m e = absurd (clash (sym e))
+
+-- a kind that allows some length is known
+pub length-known : (kind : Kind) (m : ℕ) → lengthGood kind m ≡ true → known kind ≡ true
+length-known Box m e = refl
+length-known Polygon m e = refl
+length-known Ellipse m e = refl
+length-known And m e = refl
+length-known Or m e = refl
+length-known Not m e = refl
+length-known Unknown m e = e
+
+-- ---- the words of a body
+
+-- −2^31 to 2^31 − 1
+abbrev pub Fits : ℤ → Type 0
+Fits w = inRange (negsuc 2147483647) (pos 2147483647) w ≡ true
+
+pub range-fits : (lo hi w : ℤ) → natAbs lo ≤ 2147483647 → natAbs hi ≤ 2147483647 → inRange lo hi w ≡ true → Fits w
+unfolding inRange
+range-fits lo (pos b) (pos n) g h e = le-leb n 2147483647 (omega (arith, leb-true n b (and-both (leZ lo (pos n)) (leb n b) e .1)))
+range-fits lo (negsuc b) (pos n) g h e = absurd (clash (sym (and-both (leZ lo (pos n)) false e .1)))
+range-fits (pos a) hi (negsuc n) g h e = absurd (clash (sym (and-both false (leZ (negsuc n) hi) e .0)))
+range-fits (negsuc a) hi (negsuc n) g h e = rw (le-leb n 2147483647 (omega (arith, leb-true n a (and-both (leb n a) (leZ (negsuc n) hi) e .0))))
+
+pub number-fits : (w : ℤ) → number w ≤ 4096 → Fits w
+unfolding inRange number
+number-fits (pos n) h = le-leb n 2147483647 (omega arith)
+number-fits (negsuc n) h = absurd (omega arith)
+
+scale-fits : (w : ℤ) → onScale w ≡ true → Fits w
+unfolding onScale
+scale-fits w e = range-fits (negsuc 65535) (pos 65535) w (omega arith) (omega arith) e
+
+entry-fits : (w : ℤ) → entry w ≡ true → Fits w
+unfolding entry
+entry-fits w e = range-fits (negsuc 16777215) (pos 16777216) w (omega arith) (omega arith) e
+
+-- either test of a choice
+pub choose : (b x y : Bool) {P : Type 0} → (b ≡ true → x ≡ true → P) → (b ≡ false → y ≡ true → P) → cond b x y ≡ true → P
+choose true x y f g e = f refl e
+choose false x y f g e = g refl e
+
+pub earlier-low : (k set r : ℕ) → k ≤ 64 → earlier k set r ≡ true → r < 64
+unfolding earlier
+earlier-low k set r few e = omega (arith, ltb-true r k (and-both (ltb r k) _ e .0))
+
+module _ (n k set : ℕ) (narrow : n ≤ 8) (few : k ≤ 64) (body : List ℤ) where
+  dimension-fits : (s t i : ℕ) → s * t ≡ i → dimensionGood n body s t ≡ true → Fits (word body i)
+  unfolding dimensionGood
+  dimension-fits s t i q e = number-fits (word body i)
+      (omega (arith, ltb-true (number (word body i)) n (rw q at (and-both (ltb (number (word body (s * t))) n) _ e .0))))
+
+  operand-fits : (i : ℕ) → operandWord k set body i ≡ true → Fits (word body i)
+  unfolding operandWord
+  operand-fits i e = number-fits (word body i) (omega (arith, earlier-low k set (number (word body i) / 2) few e))
+
+  -- a good word fits 32 bits
+  pub body-fits : (kind : Kind) (i : ℕ) → bodyWord kind n k set body i ≡ true → Fits (word body i)
+  unfolding boxWord polygonWord ellipseWord matrixWord
+  body-fits Box i =
+      choose (eqb (i % 3) 0) _ _
+      (λ c. dimension-fits 3 (i / 3) i (omega (arith, eqb-true (i % 3) 0 c)))
+      (λ _. choose (eqb (i % 3) 1) _ _
+      (λ _. scale-fits (word body i))
+      (λ _ e. range-fits (negsuc 65534) (pos 65536) (word body i) (omega arith) (omega arith)
+      (and-both (inRange (negsuc 65534) (pos 65536) (word body i)) _ e .0)))
+  body-fits Polygon i = choose (ltb i 2) _ _ (λ _. dimension-fits 1 i i (omega arith)) (λ _. scale-fits (word body i))
+  body-fits Ellipse i =
+      choose (ltb i 2) _ _ (λ _. dimension-fits 1 i i (omega arith))
+      (λ _. choose (ltb i 4) _ _ (λ _. scale-fits (word body i))
+      (λ _. choose (eqb i 4) _ _ (λ c e. let q : i ≡ 4 = eqb-true i 4 c in rw q (entry-fits (word body 4) (and-both (entry (word body 4)) _ e .0)))
+      (λ _. choose (ltb i 7) _ _ (λ _. entry-fits (word body i))
+      (λ _. range-fits (pos 1) (pos 4096) (word body i) (omega arith) (omega arith)))))
+  body-fits And i = operand-fits i
+  body-fits Or i = operand-fits i
+  body-fits Not i = operand-fits i
+  body-fits Unknown i = λ e. absurd (clash (sym e))
