@@ -28,11 +28,12 @@ use Rattle.counter.specs.Judging.{valueGood, taken, members}
 use Rattle.counter.specs.Counting.{eventAt, takenAt, memberAt, tallyOf}
 use Rattle.counter.specs.declared.Tally.{Tally}
 use Rattle.counter.specs.Inner.Steps.{parentRegion, headAt, stepAt, Taken, Operands, Sound, AllSound}
-use Rattle.counter.specs.Inner.Groups.{First, SetOf, Those, Candidates, Agree, Matched, MemberSets, inSet, firstOf, fromTo, tripleAt, triplesAt, operandAt, allAt, anyAt, parentAt, shapeAt, unset, memberBy, memberIn}
-use Rattle.counter.specs.declared.steps.Head.{Head}
+use Rattle.counter.specs.Inner.Groups.{First, SetOf, Those, Candidates, Agree, Matched, MemberSets, inSet, firstOf, fromTo, tripleAt, triplesAt, operandAt, allAt, anyAt, parentAt, drawnAt, shapeAt, memberBy, memberIn}
+use Rattle.counter.specs.declared.steps.Shape.the-variants.{Box}
 use Rattle.counter.specs.declared.steps.Step.{Step}
-use Rattle.counter.specs.declared.steps.Step.the-variants.{Box}
-use Rattle.counter.proofs.SoundLaws.{on-scale, parent-is, decoded, kind-known}
+use Rattle.counter.proofs.PositionLaws.{without-outline-tells}
+use Rattle.counter.proofs.KindLaws.{on-scale, position-tells}
+use Rattle.counter.proofs.SoundLaws.{parent-is}
 use Rattle.counter.proofs.StepLaws.{settled-done, bits-low}
 use Rattle.counter.proofs.TallyLaws.{event-inside, withTaken, withSpoilt, tally-taken, tally-spoilt}
 use Rattle.counter.proofs.SpanLaws.{span-range}
@@ -247,10 +248,9 @@ module _ (n : ℕ) (group body : List ℤ) where
   }
 
   -- all triples are the box
-  pub triples-all : {step : Step} {head : Head} → step ≡ Box head → {among found : ℕ} → Those among (triplesAt n group body (length body / 3)) found
-      → Those among (shapeAt step n group body unset) found
-  unfolding triplesAt shapeAt boxIn
-  triples-all e t = those-same (λ k h m. rw e) t
+  pub triples-all : {among found : ℕ} → Those among (triplesAt n group body (length body / 3)) found → Those among (drawnAt Box n group body) found
+  unfolding triplesAt drawnAt boxIn
+  triples-all t = those-same (λ e h m. sym (without-outline-tells _ .0)) t
 
 -- ---- combinations
 
@@ -318,7 +318,7 @@ module _ {p : List ℤ} {n at : ℕ} (s : Sound p n at) (group : List ℤ) {take
   unfolding shapeAt memberBy stepIn stepAt
   step-those {step} e1 {body} e2 t = record {
     each = λ e h. t .each e h
-        ∙ rw (in-parent e h, e1, e2, decoded (kindAt p at) (headAt p at) (eventAt n group e) (bits e) (bodyAt p at) (kind-known s))
+        ∙ rw (in-parent e h, e1, e2, position-tells (kindAt p at) (headAt p at) (eventAt n group e) (bits e) (bodyAt p at) .0)
         (and-assoc (hasBit taken e) (parentIn (bits e) (word p (at + 2))) _);
   }
 
@@ -357,7 +357,7 @@ module _ (p : List ℤ) (n : ℕ) (group : List ℤ) (taken : ℕ) where
   pub settling-start : AllSound (stepCount p) p n 2 → Settling p n group taken (stepCount p) 2 (replicate 64 0)
   unfolding bitsOf inSet
   settling-start s = record {
-    bits = unset;
+    bits = λ e. 0;
     sound = s;
     long = length-replicate {A = ℕ} 64 0;
     matched = record { each = λ e q h l. rw (getD-replicate {A = ℕ} 64 q 0 0 l, no-bit e, no-bit q) (sym (and-right-false (hasBit taken e))) };

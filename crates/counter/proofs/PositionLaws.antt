@@ -2,29 +2,18 @@
 use mathlib.Core.Path.{_≡_, refl, sym, _∙_}
 use mathlib.Core.Bool.{Bool, true, false, not, cond, _&&_, _||_}
 use mathlib.Core.List.{List}
-use Prim.Native.Nat.{ℕ}
 use lib.IntN.{ℤ, pos, _-ℤ_, _*ℤ_}
-use lib.ListN.{length}
 use lib.Signed.{leZ, ltZ}
 use Rattle.integers.specs.Equality.{eqZ}
 use Rattle.integers.proofs.Order.{zarith}
 use Rattle.integers.proofs.Equality.{eqZ-true, eqZ-false, true-eqZ, false-eqZ}
-use Rattle.plans.specs.Indices.{all, any}
-use Rattle.plans.specs.declared.Kind.{Kind}
-use Rattle.plans.specs.declared.Kind.the-variants as K
-use Rattle.plans.specs.Kinds.{known}
 use Rattle.plans.proofs.IndexLaws.{clash}
 use Rattle.counter.specs.Polygon.{onOutline, winding, inPolygon}
 use Rattle.counter.specs.Ellipse.{form, determinant, inEllipse}
 use Rattle.counter.specs.Positions.{notOutside, isOnOutline, polygonPosition, bySides, ellipsePosition}
-use Rattle.counter.specs.Members.{valueIn, boxIn, operandIn}
-use Rattle.counter.specs.Outlines.{polygonOn, ellipseOn, shapeOn}
-use Rattle.counter.specs.Inner.Steps.{planeOf, ovalOf, stepOf, inStep, withoutOutline, positionIn}
+use Rattle.counter.specs.Inner.Steps.{withoutOutline}
 use Rattle.counter.specs.declared.Position.{Position}
 use Rattle.counter.specs.declared.Position.the-variants.{Outside, Inside, OnOutline}
-use Rattle.counter.specs.declared.steps.Head.{Head}
-use Rattle.counter.specs.declared.steps.Step.{Step}
-use Rattle.counter.specs.declared.steps.Step.the-variants.{Box, Polygon, Ellipse, And, Or, Not}
 
 -- ---- polygon
 
@@ -109,33 +98,6 @@ on-is-in OnOutline = refl
 
 -- ---- shapes without an outline
 
-without-outline-in : (b : Bool) → notOutside (withoutOutline b) ≡ b
-without-outline-in true = refl
-without-outline-in false = refl
-
-without-outline-on : (b : Bool) → isOnOutline (withoutOutline b) ≡ false
-without-outline-on true = refl
-without-outline-on false = refl
-
--- ---- a decoded step
-
--- the position of an event says whether it is in the step's shape
-pub position-in : (step : Step) (event : List ℤ) (bits : ℕ) (body : List ℤ) → notOutside (positionIn step event bits body) ≡ inStep step event bits body
-position-in (Box h) event bits body = without-outline-in _
-position-in (Polygon h pl) event bits body = polygon-in _ _ _
-position-in (Ellipse h pl o) event bits body = ellipse-in _ _ _ _ _ _ _ _
-position-in (And h) event bits body = without-outline-in _
-position-in (Or h) event bits body = without-outline-in _
-position-in (Not h) event bits body = without-outline-in _
-
--- and whether it is on the outline of that shape
-pub position-on : (kind : Kind) (h : Head) (event : List ℤ) (bits : ℕ) (body : List ℤ) → known kind ≡ true
-    → isOnOutline (positionIn (stepOf kind h body) event bits body) ≡ shapeOn kind event body
-unfolding planeOf ovalOf polygonOn ellipseOn valueIn
-position-on K.Box h event bits body w = without-outline-on (boxIn event body)
-position-on K.Polygon h event bits body w = refl
-position-on K.Ellipse h event bits body w = refl
-position-on K.And h event bits body w = without-outline-on (all (operandIn bits body) (length body))
-position-on K.Or h event bits body w = without-outline-on (any (operandIn bits body) (length body))
-position-on K.Not h event bits body w = without-outline-on (not (operandIn bits body 0))
-position-on K.Unknown h event bits body w = absurd (clash (sym w))
+pub without-outline-tells : (b : Bool) → (notOutside (withoutOutline b) ≡ b) × (isOnOutline (withoutOutline b) ≡ false)
+without-outline-tells true = (refl, refl)
+without-outline-tells false = (refl, refl)

@@ -5,13 +5,13 @@ ghost use lib.IntN.{pos, _-ℤ_};
 ghost use lib.Signed.{leZ, ltZ, _<ℤ_};
 ghost use Prim.Native.Nat.{ℕ, _+_, _*_, _/_, _%_, _<_, _≤_};
 ghost use lib.ListN.{length};
-ghost use Rattle.counter.specs.Inner.Steps.{BoxBody, Operands, Shaped, Sound};
-ghost use Rattle.counter.specs.declared.steps.Head.{Head};
-ghost use Rattle.counter.specs.declared.steps.Step.the-variants.{Box};
-ghost use Rattle.counter.specs.Inner.Groups.{First, SetOf, Those, Candidates, firstOf, tripleAt, triplesAt, Agree, Matched, outside, operandAt, allAt, anyAt, parentAt, shapeAt, unset, memberBy};
+ghost use Rattle.counter.specs.Inner.Steps.{BoxBody, Operands, Shaped, StepShaped, Sound};
+ghost use Rattle.counter.specs.declared.steps.Shape.the-variants.{Box};
+ghost use Rattle.counter.specs.Inner.Groups.{First, SetOf, Those, Candidates, firstOf, tripleAt, triplesAt, Agree, Matched, outside, operandAt, allAt, anyAt, parentAt, drawnAt, shapeAt, memberBy};
 use crate::reading::number_in;
 use crate::reading::settle;
 use crate::shapes::in_shape;
+use crate::steps::Shape;
 use crate::steps::Step;
 use crate::steps::head_of;
 use crate::steps::parent_of;
@@ -71,17 +71,17 @@ fn any_of(sets: &[u64; 64], body: &[i32]) -> u64
     found
 }
 
-// The events of a set that are in the shape of a step, asked one by one. A combination is asked with no bit set.
-fn each_of(group: &[i32], n: usize, g: usize, among: u64, body: &[i32], step: Step) -> u64
-    requires { ⌜ Candidates n (now group) g among × (n ≤ 8) × Shaped step n (now body) ⌝ }
-    ensures { λ r. ⌜ Those among (shapeAt step n (now (group .entry)) (now (body .entry)) unset) r ⌝ }
+// The events of a set that are in a shape, asked one by one.
+fn each_of(group: &[i32], n: usize, g: usize, among: u64, body: &[i32], shape: Shape) -> u64
+    requires { ⌜ Candidates n (now group) g among × (n ≤ 8) × Shaped shape n (now body) ⌝ }
+    ensures { λ r. ⌜ Those among (drawnAt shape n (now (group .entry)) (now (body .entry))) r ⌝ }
 {
     let mut rest = among;
     let mut found = 0u64;
     while 0 < rest {
         let e = first_of(rest);
         let start = e * n;
-        let member = in_shape(&group[start..start + n], 0, body, step);
+        let member = in_shape(&group[start..start + n], body, shape);
         found = settle(found, e, member);
         rest = rest & (rest - 1);
     }
@@ -138,19 +138,30 @@ fn triples_of(group: &[i32], n: usize, g: usize, among: u64, body: &[i32]) -> u6
     rest
 }
 
-// The events of a set that are in the box of a step: few are asked one by one, of many all are asked each triple.
+// The events of a set that are in a box: few are asked one by one, of many all are asked each triple.
 // Where few become many is a matter of measuring, not of proof: both ways keep one contract.
-fn box_of(group: &[i32], n: usize, g: usize, among: u64, body: &[i32], step: Step) -> u64
-    requires { ⌜ Candidates n (now group) g among × (n ≤ 8) × BoxBody n (now body) × ((head : Head) × (step ≡ Box head)) ⌝ }
-    ensures { λ r. ⌜ Those among (shapeAt step n (now (group .entry)) (now (body .entry)) unset) r ⌝ }
+fn box_of(group: &[i32], n: usize, g: usize, among: u64, body: &[i32]) -> u64
+    requires { ⌜ Candidates n (now group) g among × (n ≤ 8) × BoxBody n (now body) ⌝ }
+    ensures { λ r. ⌜ Those among (drawnAt Box n (now (group .entry)) (now (body .entry))) r ⌝ }
 {
     if u64::count_ones(among) < 40 {
-        return each_of(group, n, g, among, body, step);
+        return each_of(group, n, g, among, body, Shape::Box);
     }
     triples_of(group, n, g, among, body)
 }
 
-// The events of a set that are in the shape of a step.
+// The events of a set that are in a shape.
+fn drawn_of(group: &[i32], n: usize, g: usize, among: u64, body: &[i32], shape: Shape) -> u64
+    requires { ⌜ Candidates n (now group) g among × (n ≤ 8) × Shaped shape n (now body) ⌝ }
+    ensures { λ r. ⌜ Those among (drawnAt shape n (now (group .entry)) (now (body .entry))) r ⌝ }
+{
+    match shape {
+        Shape::Box => box_of(group, n, g, among, body),
+        _ => each_of(group, n, g, among, body, shape),
+    }
+}
+
+// The events of a set that are in what a step draws or combines.
 fn shape_of(
     group: &[i32],
     n: usize,
@@ -160,13 +171,11 @@ fn shape_of(
     body: &[i32],
     step: Step,
 ) -> u64
-    requires { ⌜ Candidates n (now group) g among × (n ≤ 8) × Shaped step n (now body) × (length (now sets) ≡ 64) ⌝ }
+    requires { ⌜ Candidates n (now group) g among × (n ≤ 8) × StepShaped step n (now body) × (length (now sets) ≡ 64) ⌝ }
     ensures { λ r. ⌜ ((bits : ℕ → ℕ) → Agree among (now (sets .entry)) bits → Those among (shapeAt step n (now (group .entry)) (now (body .entry)) bits) r) ⌝ }
 {
     match step {
-        Step::Box(_) => box_of(group, n, g, among, body, step),
-        Step::Polygon(_, _) => each_of(group, n, g, among, body, step),
-        Step::Ellipse(_, _, _) => each_of(group, n, g, among, body, step),
+        Step::Drawn(_, shape) => drawn_of(group, n, g, among, body, shape),
         Step::And(_) => all_of(sets, body, among),
         Step::Or(_) => among & any_of(sets, body),
         Step::Not(_) => among & complement(operand_of(sets, body, 0)),

@@ -26,7 +26,8 @@ use Rattle.tables.specs.Steps.{isWritten, shapeKind, referenceWord, body
 use Rattle.tables.proofs.ListLaws.{or-right, at-in, map-in}
 use Rattle.tables.proofs.NameLaws.{region-in, in-number}
 use Rattle.tables.proofs.OrderLaws.{Orderly, Ordered, order-length, order-ordered}
-use Rattle.tables.proofs.StepLaws.{kind-is, region-is, parent-is, length-is, body-is, next-is, length-known, noOperand, reference-there, reference-region}
+use Rattle.plans.proofs.KindLaws.{length-known}
+use Rattle.tables.proofs.StepLaws.{kind-is, region-is, parent-is, length-is, body-is, next-is, noOperand, reference-there, reference-region}
 
 below-four : (P : ℕ → Type 0) → P 0 → P 1 → P 2 → P 3 → (j : ℕ) → j < 4 → P j
 below-four P a b c d zero h = a

@@ -1,4 +1,4 @@
--- The words of a step where it stands in a plan, and the kind that a kind's number gives back.
+-- The words of a step where it stands in a plan.
 use mathlib.Core.Path.{_≡_, refl, sym, ap, _∙_}
 use mathlib.Core.Bool.{Bool, true, false, cond}
 use mathlib.Core.List.{List, [], _∷_, _++_, map}
@@ -11,34 +11,11 @@ use lib.ListN.{length, getD, length-append}
 use lib.Seq.{getD-append-add, drop-append-add, take-append-seam}
 use Rattle.plans.specs.Words.{word, number, part}
 use Rattle.plans.specs.Form.{kindAt, regionAt, lengthAt, bodyAt, nextAt}
-use Rattle.plans.specs.Kinds.{kindNumber, kindOf, known, lengthGood}
-use Rattle.plans.specs.declared.Kind.{Kind}
-use Rattle.plans.specs.declared.Kind.the-variants.{Box, Polygon, Ellipse, And, Or, Not, Unknown}
+use Rattle.plans.specs.Kinds.{kindNumber, kindOf}
+use Rattle.plans.proofs.KindLaws.{kind-back}
 use Rattle.gates.specs.Gate.{Operand, Region}
 use Rattle.tables.specs.Table.{nthRegion, numberOf}
 use Rattle.tables.specs.Steps.{shapeKind, referenceWord, bodyWords, parentWord, stepWords}
-
--- ---- kinds
-
-pub kind-back : (k : Kind) → kindOf (kindNumber k) ≡ k
-unfolding kindOf
-kind-back Box = refl
-kind-back Polygon = refl
-kind-back Ellipse = refl
-kind-back And = refl
-kind-back Or = refl
-kind-back Not = refl
-kind-back Unknown = refl
-
--- a kind that allows some length is known
-pub length-known : (k : Kind) (m : ℕ) → lengthGood k m ≡ true → known k ≡ true
-length-known Box m e = refl
-length-known Polygon m e = refl
-length-known Ellipse m e = refl
-length-known And m e = refl
-length-known Or m e = refl
-length-known Not m e = refl
-length-known Unknown m e = e
 
 -- ---- the words of a step that stands after others
 

@@ -2,7 +2,7 @@
 use mathlib.Core.Path.{_≡_}
 use mathlib.Core.Bool.{Bool, true, not, _&&_, cond}
 use mathlib.Core.List.{List}
-use Prim.Native.Nat.{ℕ, _+_, _-_, _*_, _/_, _%_, _<_, _≤_}
+use Prim.Native.Nat.{ℕ, _-_, _*_, _/_, _%_, _<_, _≤_}
 use lib.IntN.{ℤ}
 use lib.ListN.{length, getD}
 use lib.Dec.{eqb, leb, ltb}
@@ -11,7 +11,9 @@ use Rattle.plans.specs.Words.{word, number}
 use Rattle.plans.specs.Bits.{hasBit}
 use Rattle.counter.specs.Members.{tripleIn, stepIn, bitsOf}
 use Rattle.counter.specs.Counting.{eventAt}
-use Rattle.counter.specs.Inner.Steps.{inStep, Taken}
+use Rattle.counter.specs.Positions.{notOutside}
+use Rattle.counter.specs.Inner.Steps.{positionTo, positionIn, Taken}
+use Rattle.counter.specs.declared.steps.Shape.{Shape}
 use Rattle.counter.specs.declared.steps.Step.{Step}
 
 -- ---- sets of events
@@ -86,13 +88,13 @@ anyAt sets body i e = any (λ k. operandAt sets body k e) i
 unfoldable pub parentAt : List ℕ → ℕ → ℕ → ℕ → Bool
 parentAt sets taken parent e = cond (ltb parent 64) (inSet sets e parent) (hasBit taken e)
 
--- event e is in a step's shape
-unfoldable pub shapeAt : Step → ℕ → List ℤ → List ℤ → (ℕ → ℕ) → ℕ → Bool
-shapeAt step n group body bits e = inStep step (eventAt n group e) (bits e) body
+-- event e is in a shape
+unfoldable pub drawnAt : Shape → ℕ → List ℤ → List ℤ → ℕ → Bool
+drawnAt shape n group body e = notOutside (positionTo shape (eventAt n group e) body)
 
--- no bits: for a shape, which does not look at them
-abbrev pub unset : ℕ → ℕ
-unset e = 0
+-- event e is in what a step draws or combines
+unfoldable pub shapeAt : Step → ℕ → List ℤ → List ℤ → (ℕ → ℕ) → ℕ → Bool
+shapeAt step n group body bits e = notOutside (positionIn step (eventAt n group e) (bits e) body)
 
 -- the step at a place makes event e a member of its region
 unfoldable pub memberBy : List ℤ → ℕ → List ℤ → ℕ → (ℕ → ℕ) → ℕ → Bool

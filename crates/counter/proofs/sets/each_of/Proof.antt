@@ -9,7 +9,7 @@ use lib.ListN.{length, take, drop}
 use lib.Bits.{and-le-r}
 use Rattle.plans.specs.Bits.{hasBit}
 use Rattle.counter.specs.Counting.{eventAt}
-use Rattle.counter.specs.Inner.Groups.{First, shapeAt, unset}
+use Rattle.counter.specs.Inner.Groups.{First, drawnAt}
 use Rattle.counter.proofs.TallyLaws.{event-inside}
 use Rattle.counter.proofs.GroupLaws.{event-part, event-long, Asking, asking-all, asking-done, asked, asking-next}
 use borrow.Author.Needs.{needs}
@@ -17,10 +17,10 @@ use Rattle.counter.proofs.sets.each_of.Statement.{statement}
 use Rattle.counter.proofs.sets.each_of.Tie as tie
 
 abbrev Inv-loop : tie.InvT-loop
-Inv-loop group n g among body step rest₀ found₀ rest found = Asking among (shapeAt step n group body unset) rest found
+Inv-loop group n g among body shape rest₀ found₀ rest found = Asking among (drawnAt shape n group body) rest found
 
 abbrev μ-loop : tie.MeasureT-loop
-μ-loop group n g among body step rest₀ found₀ rest found = rest
+μ-loop group n g among body shape rest₀ found₀ rest found = rest
 
 loop-holds : tie.Need-loop-holds Inv-loop μ-loop
 loop-holds c = asking-all (c .args .among) _
@@ -90,7 +90,7 @@ loop-less c =
     omega arith
 
 loop-again : tie.Need-loop-again Inv-loop μ-loop
-unfolding shapeAt
+unfolding drawnAt
 loop-again c =
     let at-event = c .before .before .before in
     asking-next (entry at-event .args .among) _ (loop at-event .loop .inv) (first at-event) (rw (event-is at-event) at (c .before .in-shape .ensures))
