@@ -1,0 +1,15 @@
+-- `minus_zero`: what is kept is zero exactly where the value is.
+use borrow.Author.Needs.{needs}
+use Rattle.text.specs.Decimals.{isMinusZero}
+use Rattle.text.proofs.DecimalLaws.{zero-kept}
+use Rattle.text.proofs.decimals.minus_zero.Statement.{statement}
+use Rattle.text.proofs.decimals.minus_zero.Tie as tie
+
+returns : tie.Need-returns
+unfolding isMinusZero
+returns c =
+    let after-unsigned = c .before in
+    rw (c .unsigned-thousandths .ensures, after-unsigned .unsigned .ensures, after-unsigned .before .negative .ensures, zero-kept)
+
+pub minus-zero-spec : {M : Type 1} → statement M
+minus-zero-spec = tie.close (tie.spec (λ c κs. search needs) (λ c κs. search needs) (λ c κs. search needs) returns)

@@ -1,0 +1,12 @@
+-- `one_to_three`: the tests are the definition's.
+use borrow.Author.Needs.{needs}
+use Rattle.text.specs.Decimals.{isOneToThree}
+use Rattle.text.proofs.decimals.one_to_three.Statement.{statement}
+use Rattle.text.proofs.decimals.one_to_three.Tie as tie
+
+returns : tie.Need-returns
+unfolding isOneToThree
+returns c = rw (c .all-digits .ensures)
+
+pub one-to-three-spec : {M : Type 1} → statement M
+one-to-three-spec = tie.close (tie.spec (λ c κs. search needs) returns)

@@ -1,0 +1,44 @@
+-- `unsigned_thousandths`: a whole part cut at 2^30 lies beyond 2^31 in thousandths.
+use mathlib.Core.Path.{_≡_}
+use Prim.Native.Nat.{_+_, _*_, min}
+use native.Mathlib.Omega.{arith}
+use borrow.Author.Needs.{needs}
+use Rattle.text.specs.Decimals.{unsignedThousandths}
+use Rattle.text.proofs.DecimalLaws.{thousandths-cut}
+use Rattle.text.proofs.decimals.unsigned_thousandths.Statement.{statement}
+use Rattle.text.proofs.decimals.unsigned_thousandths.Tie as tie
+
+value : (c : tie.After-three-decimals)
+    → min (unsignedThousandths (c .before .before .before .before .before .args .u .now)) 2147483647
+    ≡ min (c .before .before .digits-value .result * 1000 + c .three-decimals .result) 2147483647
+value c =
+    let whole = c .before .before in
+    rw (
+      thousandths-cut,
+      c .three-decimals .ensures,
+      c .before .after-point .ensures,
+      whole .digits-value .ensures,
+      whole .before .before-point .ensures,
+    )
+
+returns : tie.Need-returns
+returns c = omega (arith, value (c .before))
+
+returns-2 : tie.Need-returns-2
+returns-2 c = omega (arith, value (c .before))
+
+pub unsigned-thousandths-spec : {M : Type 1} → statement M
+unsigned-thousandths-spec =
+    tie.close
+    (tie.spec
+    (λ c κs. search needs)
+    (λ c κs. search needs)
+    (λ c. search needs)
+    (λ c. search needs)
+    (λ c κs. search needs)
+    (λ c κs. search needs)
+    (λ c. search needs)
+    (λ c. search needs)
+    (λ c. search needs)
+    returns
+    returns-2)
