@@ -1,0 +1,327 @@
+-- Theorems about specs/Decimals: without a point nothing changes, what the point means, no minus zero; and worked examples.
+use mathlib.Core.Path.{_≡_, refl, sym, _∙_, ap}
+use mathlib.Core.Bool.{Bool, true, false, not, cond, _&&_}
+use mathlib.Core.Logic.{_⊎_, inl, inr}
+use mathlib.Core.List.{List, [], _∷_, _++_, map}
+use Prim.Native.Nat.{ℕ, zero, suc, _+_, _-_, _*_, _^_, _≤_, _<_}
+use native.Mathlib.Omega.{arith}
+use lib.Dec.{eqb, ltb, leb}
+use lib.IntN.{pos, negsuc, _*ℤ_, pos-*ℤ-pos, pos-*ℤ-negsuc}
+use lib.ListN.{length, getD, take, drop, replicate, take-append-drop, drop-of-length-le, length-append}
+use lib.Seq.{take-all, take-append-seam, drop-append-add}
+use lib.Signed.{leZ}
+use borrow.Author.Tests.{ltb-true, ltb-false, leb-true, eqb-true, eqb-false, lt-ltb, le-ltb, ne-eqb, not-true}
+use Rattle.text.specs.Bytes.{bytes, same, every}
+use Rattle.text.specs.Numbers.{isDigit, isNegative, unsigned, isPositive, isNumber, digitsValue, signed, numberValue}
+use Rattle.text.specs.Decimals.{pointAt, hasPoint, beforePoint, afterPoint, unsignedThousandths, thousandths, isWhole, isOneToThree, isMinusZero, isDecimal}
+use Rattle.text.specs.Inner.Kept.{clampTo}
+use Rattle.text.specs.Inner.KeptDecimals.{readDecimal}
+use Rattle.text.specs.declared.decimals.Decimal.the-variants.{Bad, Thousandths}
+use Rattle.text.proofs.TestLaws.{true≢false, and-left, and-right, or-true, passed-or-failed}
+use Rattle.text.proofs.BytesLaws.{rest-cons, before-found, same-eq}
+
+-- ── The parts at the point ──
+
+module _ (s : List ℕ) (h : hasPoint s ≡ false) where
+  none-end : length s ≤ pointAt s
+  unfolding hasPoint
+  none-end = ltb-false (pointAt s) (length s) h
+
+  -- without a point s is all before it
+  pub none-before : beforePoint s ≡ s
+  unfolding beforePoint
+  none-before = take-all (pointAt s) s none-end
+
+  pub none-after : afterPoint s ≡ []
+  unfolding afterPoint
+  none-after = let l : length s ≤ pointAt s + 1 = omega (arith, none-end) in drop-of-length-le s l
+
+point-at : (s d : List ℕ) → length s ≤ pointAt s → pointAt (s ++ (46 ∷ d)) ≡ length s
+point-at [] d h = refl
+point-at (x ∷ s) d h = go (passed-or-failed (eqb x 46)) (point-at s d)
+  where
+    go : (eqb x 46 ≡ true) ⊎ (eqb x 46 ≡ false) → (length s ≤ pointAt s → pointAt (s ++ (46 ∷ d)) ≡ length s)
+        → pointAt ((x ∷ s) ++ (46 ∷ d)) ≡ length (x ∷ s)
+    go (inl t) r = absurd (let l : length (x ∷ s) ≤ 0 = rw t at h in omega arith)
+    go (inr t) r = let l : length (x ∷ s) ≤ suc (pointAt s) = rw t at h in rw t (ap suc (r (omega arith)))
+
+-- a text without a point, a point, another: these are the parts
+module _ (s d : List ℕ) (h : hasPoint s ≡ false) where
+  pub point-has : hasPoint (s ++ (46 ∷ d)) ≡ true
+  unfolding hasPoint
+  point-has = rw (point-at s d (none-end s h)) (lt-ltb (length s) (length (s ++ (46 ∷ d))) (simp length-append (omega arith)))
+
+  pub point-before : beforePoint (s ++ (46 ∷ d)) ≡ s
+  unfolding beforePoint
+  point-before = rw (point-at s d (none-end s h)) (take-append-seam s (46 ∷ d))
+
+  pub point-after : afterPoint (s ++ (46 ∷ d)) ≡ d
+  unfolding afterPoint
+  point-after = rw (point-at s d (none-end s h)) (drop-append-add s (46 ∷ d) 1)
+
+-- and every text that has a point is made of them
+pub point-parts : (s : List ℕ) → hasPoint s ≡ true → beforePoint s ++ (46 ∷ afterPoint s) ≡ s
+unfolding hasPoint beforePoint afterPoint
+point-parts s h =
+    let l = ltb-true (pointAt s) (length s) h in
+    let e = eqb-true (getD s (pointAt s) 0) 46 (before-found (λ c. eqb c 46) 0 s l) in
+    let r : drop (pointAt s) s ≡ 46 ∷ drop (pointAt s + 1) s = rest-cons s (pointAt s) 0 l ∙ ap (λ (x : ℕ). x ∷ drop (pointAt s + 1) s) e in
+    ap (λ (k : List ℕ). take (pointAt s) s ++ k) (sym r) ∙ take-append-drop (pointAt s) s
+
+-- ── The sign ──
+
+module _ (s t : List ℕ) (h : isNegative t ≡ false) where
+  sign-first : isNegative (s ++ t) ≡ isNegative s
+  unfolding isNegative
+  sign-first = go s
+    where
+      go : (s : List ℕ) → isNegative (s ++ t) ≡ isNegative s
+      go [] = h
+      go (x ∷ s) = refl
+
+  unsigned-first : unsigned (s ++ t) ≡ unsigned s ++ t
+  unfolding unsigned isNegative
+  unsigned-first = go s
+    where
+      both : (b : Bool) (x : ℕ) (s : List ℕ) → cond b (s ++ t) (x ∷ (s ++ t)) ≡ cond b s (x ∷ s) ++ t
+      both true x s = refl
+      both false x s = refl
+
+      go : (s : List ℕ) → unsigned (s ++ t) ≡ unsigned s ++ t
+      go [] = rw h
+      go (x ∷ s) = both (eqb x 45) x s
+
+signed-times : (b : Bool) (k n : ℕ) → signed b (k * n) ≡ pos k *ℤ signed b n
+signed-times false k n = sym (pos-*ℤ-pos k n)
+signed-times true k zero = let e : k * 0 ≡ 0 = omega arith in rw e
+signed-times true k (suc n) = sym (pos-*ℤ-negsuc k n)
+
+unsigned-none : (s : List ℕ) → hasPoint s ≡ false → hasPoint (unsigned s) ≡ false
+unfolding unsigned isNegative hasPoint
+unsigned-none [] h = refl
+unsigned-none (x ∷ s) h = go (passed-or-failed (eqb x 45))
+  where
+    go : (eqb x 45 ≡ true) ⊎ (eqb x 45 ≡ false) → hasPoint (unsigned (x ∷ s)) ≡ false
+    go (inl t) =
+        let n = ne-eqb x 46 (λ e. omega (arith, eqb-true x 45 t)) in
+        let l : length (x ∷ s) ≤ suc (pointAt s) = rw n at (none-end (x ∷ s) h) in
+        rw t (le-ltb (pointAt s) (length s) (omega arith))
+    go (inr t) = rw t h
+
+-- ── Without a point ──
+
+module _ (s : List ℕ) (h : hasPoint s ≡ false) where
+  -- the form is 01's
+  pub none-decimal : isDecimal s ≡ isNumber s
+  unfolding isDecimal
+  none-decimal = rw h
+
+  none-value : unsignedThousandths (unsigned s) ≡ 1000 * digitsValue 0 (unsigned s)
+  unfolding unsignedThousandths
+  none-value =
+      let u = unsigned-none s h in
+      rw (none-before (unsigned s) u, none-after (unsigned s) u) (omega arith)
+
+  -- and the value 1000 times 01's
+  pub none-thousandths : thousandths s ≡ pos 1000 *ℤ numberValue s
+  unfolding thousandths numberValue
+  none-thousandths = rw none-value (signed-times (isNegative s) 1000 (digitsValue 0 (unsigned s)))
+
+-- ── With a point ──
+
+digits-append : (v : ℕ) (a b : List ℕ) → digitsValue v (a ++ b) ≡ digitsValue (digitsValue v a) b
+digits-append v [] b = refl
+digits-append v (x ∷ a) b = digits-append (v * 10 + (x - 48)) a b
+
+struck : (v : ℕ) (d : List ℕ) → length d ≤ 3 → 1000 * v + digitsValue 0 (take 3 (d ++ bytes "000")) ≡ 10 ^ (3 - length d) * digitsValue v d
+struck v [] h = omega arith
+struck v (x ∷ []) h = omega arith
+struck v (x ∷ (y ∷ [])) h = omega arith
+struck v (x ∷ (y ∷ (z ∷ []))) h = omega arith
+struck v (x ∷ (y ∷ (z ∷ (w ∷ d)))) h = absurd (omega arith)
+
+digits-unsigned : (d : List ℕ) → every isDigit d ≡ true → isNegative d ≡ false
+unfolding isNegative
+digits-unsigned [] h = refl
+digits-unsigned (x ∷ d) h =
+    let l = leb-true 48 x (and-left (leb 48 x) (leb x 57) (and-left (isDigit x) (every isDigit d) h)) in
+    ne-eqb x 45 (λ e. omega arith)
+
+point-unsigned : (d : List ℕ) → isNegative (46 ∷ d) ≡ false
+unfolding isNegative
+point-unsigned d = refl
+
+-- the value of s, which has no point, with a point and d behind it
+module _ (s d : List ℕ) (h : hasPoint s ≡ false) where
+  point-sign : isNegative (s ++ (46 ∷ d)) ≡ isNegative s
+  point-sign = sign-first s (46 ∷ d) (point-unsigned d)
+
+  point-value : unsignedThousandths (unsigned (s ++ (46 ∷ d))) ≡ 1000 * digitsValue 0 (unsigned s) + digitsValue 0 (take 3 (d ++ bytes "000"))
+  unfolding unsignedThousandths
+  point-value =
+      let u = unsigned-none s h in
+      rw (unsigned-first s (46 ∷ d) (point-unsigned d), point-before (unsigned s) d u, point-after (unsigned s) d u)
+
+  -- the thousandths are the value of the number with its point struck out, times ten for each decimal that is left out of three
+  pub point-struck : isOneToThree d ≡ true → thousandths (s ++ (46 ∷ d)) ≡ pos (10 ^ (3 - length d)) *ℤ numberValue (s ++ d)
+  unfolding thousandths numberValue isOneToThree
+  point-struck e =
+      let r = and-right (leb 1 (length d)) (leb (length d) 3 && every isDigit d) e in
+      let l = leb-true (length d) 3 (and-left (leb (length d) 3) (every isDigit d) r) in
+      let n = digits-unsigned d (and-right (leb (length d) 3) (every isDigit d) r) in
+      rw (point-sign, point-value, sign-first s d n, unsigned-first s d n, digits-append, struck (digitsValue 0 (unsigned s)) d l)
+      (signed-times (isNegative s) (10 ^ (3 - length d)) (digitsValue (digitsValue 0 (unsigned s)) d))
+
+-- ── No minus zero ──
+
+grows : (v : ℕ) (s : List ℕ) → v ≤ digitsValue v s
+grows v [] = omega arith
+grows v (x ∷ s) = omega (arith, grows (v * 10 + (x - 48)) s)
+
+positive-some : (u : List ℕ) → isPositive u ≡ true → 0 < digitsValue 0 u
+unfolding isPositive
+positive-some [] e = absurd (true≢false (sym e))
+positive-some (x ∷ u) e = omega (arith, ltb-true 48 x (and-left (ltb 48 x) (every isDigit (x ∷ u)) e), grows (0 * 10 + (x - 48)) u)
+
+-- `0` has no `-`
+negative-number : (s : List ℕ) → isNegative s ≡ true → isNumber s ≡ isPositive (unsigned s)
+unfolding isNumber isNegative same
+negative-number [] e = refl
+negative-number (x ∷ s) e = rw (ne-eqb x 48 (λ q. omega (arith, eqb-true x 45 e)))
+
+-- a number with a `-` is below zero
+pub negative-below : (s : List ℕ) → isDecimal s ≡ true → isNegative s ≡ true → leZ (pos 0) (thousandths s) ≡ false
+unfolding thousandths isDecimal isMinusZero
+negative-below s d n = rw n (below (unsignedThousandths (unsigned s)) (go (passed-or-failed (hasPoint s))))
+  where
+    below : (m : ℕ) → 0 < m → leZ (pos 0) (signed true m) ≡ false
+    below zero h = absurd (omega arith)
+    below (suc m) h = refl
+
+    some : (m : ℕ) → eqb m 0 ≡ false → 0 < m
+    some m e = let h = eqb-false m 0 e in omega arith
+
+    go : (hasPoint s ≡ true) ⊎ (hasPoint s ≡ false) → 0 < unsignedThousandths (unsigned s)
+    go (inl t) =
+        let whole = isWhole (beforePoint (unsigned s)) in
+        let decimals = isOneToThree (afterPoint s) in
+        let e : (whole && (decimals && not (isMinusZero s))) ≡ true = rw t at d in
+        let z = not-true (isMinusZero s) (and-right decimals (not (isMinusZero s)) (and-right whole (decimals && not (isMinusZero s)) e)) in
+        some (unsignedThousandths (unsigned s)) (rw n at z)
+    go (inr t) =
+        let e : isNumber s ≡ true = rw t at d in
+        omega (arith, none-value s t, positive-some (unsigned s) (sym (negative-number s n) ∙ e))
+
+-- ── Zeros behind a point ──
+
+module _ (s : List ℕ) (e : isNegative s ≡ false) where
+  as-is : unsigned s ≡ s
+  unfolding unsigned
+  as-is = rw e
+
+  plain-number : isNumber s ≡ isWhole s
+  unfolding isNumber isWhole
+  plain-number = rw as-is
+
+-- where a whole number is not minus zero it is 01's number
+whole-number : (s : List ℕ) → (isWhole (unsigned s) && not (isNegative s && eqb (1000 * digitsValue 0 (unsigned s)) 0)) ≡ isNumber s
+unfolding isWhole same
+whole-number s = go (passed-or-failed (isNegative s)) (passed-or-failed (isPositive (unsigned s))) (passed-or-failed (same (unsigned s) (bytes "0")))
+  where
+    and-true : (b : Bool) → (b && true) ≡ b
+    and-true true = refl
+    and-true false = refl
+
+    go : (isNegative s ≡ true) ⊎ (isNegative s ≡ false) → (isPositive (unsigned s) ≡ true) ⊎ (isPositive (unsigned s) ≡ false)
+        → (same (unsigned s) (bytes "0") ≡ true) ⊎ (same (unsigned s) (bytes "0") ≡ false)
+        → (isWhole (unsigned s) && not (isNegative s && eqb (1000 * digitsValue 0 (unsigned s)) 0)) ≡ isNumber s
+    go (inr n) p z = rw (plain-number s n, as-is s n, n) (and-true (isWhole s))
+    go (inl n) (inl p) z =
+        let v = ne-eqb (1000 * digitsValue 0 (unsigned s)) 0 (λ e. omega (arith, positive-some (unsigned s) p)) in
+        rw (negative-number s n, n, p, v, or-true)
+    go (inl n) (inr p) (inl z) = rw (negative-number s n, n, p, same-eq (unsigned s) (bytes "0") z)
+    go (inl n) (inr p) (inr z) = rw (negative-number s n, n, p, z)
+
+-- a point and one to three zeros change neither the form nor the value
+module _ (s : List ℕ) (k : ℕ) (h : hasPoint s ≡ false) (l : 1 ≤ k) (m : k ≤ 3) where
+  zeros-form : isOneToThree (replicate k 48) ≡ true
+  unfolding isOneToThree
+  zeros-form = go k l m
+    where
+      go : (k : ℕ) → 1 ≤ k → k ≤ 3 → isOneToThree (replicate k 48) ≡ true
+      go zero l m = absurd (omega arith)
+      go (suc zero) l m = refl
+      go (suc (suc zero)) l m = refl
+      go (suc (suc (suc zero))) l m = refl
+      go (suc (suc (suc (suc k)))) l m = absurd (omega arith)
+
+  zeros-value : unsignedThousandths (unsigned (s ++ (46 ∷ replicate k 48))) ≡ 1000 * digitsValue 0 (unsigned s)
+  zeros-value = point-value s (replicate k 48) h ∙ rw (go k m) (omega arith)
+    where
+      go : (k : ℕ) → k ≤ 3 → digitsValue 0 (take 3 (replicate k 48 ++ bytes "000")) ≡ 0
+      go zero m = refl
+      go (suc zero) m = refl
+      go (suc (suc zero)) m = refl
+      go (suc (suc (suc zero))) m = refl
+      go (suc (suc (suc (suc k)))) m = absurd (omega arith)
+
+  pub zeros-decimal : isDecimal (s ++ (46 ∷ replicate k 48)) ≡ isDecimal s
+  unfolding isDecimal isMinusZero
+  zeros-decimal =
+      let d : List ℕ = replicate k 48 in
+      rw (
+        point-has s d h,
+        zeros-value,
+        point-sign s d h,
+        unsigned-first s (46 ∷ d) (point-unsigned d),
+        point-before (unsigned s) d (unsigned-none s h),
+        point-after s d h,
+        zeros-form,
+        h,
+      ) (whole-number s)
+
+  pub zeros-thousandths : thousandths (s ++ (46 ∷ replicate k 48)) ≡ thousandths s
+  unfolding thousandths
+  zeros-thousandths = rw (zeros-value, point-sign s (replicate k 48) h, none-value s h)
+
+-- ── Worked examples ──
+
+-- the form: with decimals, or 01's
+pub good-decimals :
+    every
+    (λ s. isDecimal (bytes s))
+    ("-0.5" ∷ "0.0" ∷ "0.000" ∷ "1134.5" ∷ "1.500" ∷ "4.0" ∷ "-0.001" ∷ "-10.25" ∷ "1234567890123456789012345678901234567890.125" ∷ "0" ∷ "-65536" ∷ [])
+    ≡ true
+unfolding isDecimal hasPoint beforePoint afterPoint unsignedThousandths isWhole isOneToThree isMinusZero isNumber isPositive isNegative unsigned same
+good-decimals = refl
+
+-- minus zero
+pub minus-zeros : every (λ s. not (isDecimal (bytes s))) ("-0" ∷ "-0.0" ∷ "-0.00" ∷ "-0.000" ∷ []) ≡ true
+unfolding isDecimal hasPoint beforePoint afterPoint unsignedThousandths isWhole isOneToThree isMinusZero isNumber isPositive isNegative unsigned same
+minus-zeros = refl
+
+pub bad-decimals :
+    every
+    (λ s. not (isDecimal (bytes s)))
+    ("" ∷ "." ∷ "-" ∷ "-." ∷ ".5" ∷ "-.5" ∷ "5." ∷ "1.2345" ∷ "00.5" ∷ "-00.5" ∷ "+0.5" ∷ "1e3" ∷ "1.5e1" ∷ "1.5.2" ∷ "1.-5" ∷ "--1.5" ∷ "1,5" ∷ "1. 5"
+    ∷ "0123456789012345678901234567890123456789.5" ∷ "1234567890123456789012345678901234567890.1234" ∷ [])
+    ≡ true
+unfolding isDecimal hasPoint beforePoint afterPoint unsignedThousandths isWhole isOneToThree isMinusZero isNumber isPositive isNegative unsigned same
+bad-decimals = refl
+
+-- their values in thousandths
+pub decimal-values :
+    map (λ s. thousandths (bytes s)) ("-0.5" ∷ "0.0" ∷ "1134.5" ∷ "1.500" ∷ "4.0" ∷ "-10.25" ∷ "7" ∷ "1234567890123456789012345678901234567890.12" ∷ [])
+    ≡ negsuc 499 ∷ pos 0 ∷ pos 1134500 ∷ pos 1500 ∷ pos 4000 ∷ negsuc 10249 ∷ pos 7000 ∷ pos 1234567890123456789012345678901234567890120 ∷ []
+unfolding thousandths unsignedThousandths beforePoint afterPoint isNegative unsigned
+decimal-values = refl
+
+-- what is read
+pub decimals-read :
+    map (λ s. readDecimal (bytes s)) ("-0.5" ∷ "-0.0" ∷ "2000000" ∷ "2147483.647" ∷ "2147483.648" ∷ "-1234567890123456789012345678901234567890.1" ∷ [])
+    ≡ Thousandths (negsuc 499) ∷ Bad ∷ Thousandths (pos 2000000000) ∷ Thousandths (pos 2147483647) ∷ Thousandths (pos 2147483647)
+    ∷ Thousandths (negsuc 2147483646)
+    ∷ []
+unfolding readDecimal clampTo thousandths isDecimal hasPoint beforePoint afterPoint unsignedThousandths isWhole isOneToThree isMinusZero isNumber
+    isPositive isNegative unsigned same
+decimals-read = refl
