@@ -6,7 +6,7 @@ use Prim.Native.Nat.{ℕ, zero, suc, _+_, _-_, _*_, _≤_, _<_, min}
 use native.Mathlib.Omega.{arith}
 use lib.Dec.{eqb}
 use lib.IntN.{ℤ, natAbs}
-use lib.ListN.{length, getD, take, drop, drop-of-length-le}
+use lib.ListN.{length, getD, take, drop-of-length-le}
 use borrow.Author.Tests.{ne-eqb}
 use Rattle.integers.specs.Range.{inRange}
 use Rattle.text.specs.Bytes.{bytes}
@@ -24,10 +24,10 @@ pub point-found : (s : List ℕ) → findFrom s 0 46 ≡ pointAt s
 unfolding findFrom
 point-found s = omega arith
 
--- behind the end stands as little as at the end
-pub no-point-after : (s : List ℕ) → length s ≤ pointAt s → drop (pointAt s) s ≡ afterPoint s
+-- where there is no point nothing stands behind it
+pub after-none : (s : List ℕ) → length s ≤ pointAt s → afterPoint s ≡ []
 unfolding afterPoint
-no-point-after s h = let l : length s ≤ pointAt s + 1 = omega arith in rw (drop-of-length-le s h, drop-of-length-le s l)
+after-none s h = let l : length s ≤ pointAt s + 1 = omega arith in drop-of-length-le s l
 
 -- ── Thousandths, kept at most 2^31 − 1 ──
 

@@ -7,7 +7,7 @@ use Prim.Native.Nat.{ℕ, zero, suc, _+_, _-_, _*_, _^_, _≤_, _<_}
 use native.Mathlib.Omega.{arith}
 use lib.Dec.{eqb, ltb, leb}
 use lib.IntN.{pos, negsuc, _*ℤ_, pos-*ℤ-pos, pos-*ℤ-negsuc}
-use lib.ListN.{length, getD, take, drop, replicate, take-append-drop, drop-of-length-le, length-append}
+use lib.ListN.{length, getD, take, drop, replicate, take-append-drop, length-append}
 use lib.Seq.{take-all, take-append-seam, drop-append-add}
 use lib.Signed.{leZ}
 use borrow.Author.Tests.{ltb-true, ltb-false, leb-true, eqb-true, eqb-false, lt-ltb, le-ltb, ne-eqb, not-true}
@@ -19,6 +19,7 @@ use Rattle.text.specs.Inner.KeptDecimals.{readDecimal}
 use Rattle.text.specs.declared.decimals.Decimal.the-variants.{Bad, Thousandths}
 use Rattle.text.proofs.TestLaws.{true≢false, and-left, and-right, or-true, passed-or-failed}
 use Rattle.text.proofs.BytesLaws.{rest-cons, before-found, same-eq}
+use Rattle.text.proofs.DecimalLaws.{after-none}
 
 -- ── The parts at the point ──
 
@@ -33,8 +34,7 @@ module _ (s : List ℕ) (h : hasPoint s ≡ false) where
   none-before = take-all (pointAt s) s none-end
 
   pub none-after : afterPoint s ≡ []
-  unfolding afterPoint
-  none-after = let l : length s ≤ pointAt s + 1 = omega (arith, none-end) in drop-of-length-le s l
+  none-after = after-none s none-end
 
 point-at : (s d : List ℕ) → length s ≤ pointAt s → pointAt (s ++ (46 ∷ d)) ≡ length s
 point-at [] d h = refl

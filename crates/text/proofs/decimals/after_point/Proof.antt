@@ -1,10 +1,11 @@
 -- `after_point`: what follows the first point, or the end.
 use native.Mathlib.Omega.{arith}
 use borrow.Author.Needs.{needs}
+use lib.ListN.{drop-of-length-le}
 use Rattle.text.specs.Decimals.{afterPoint}
 use Rattle.text.proofs.BytesLaws.{part-rest}
 use Rattle.text.proofs.LinesLaws.{found-inside}
-use Rattle.text.proofs.DecimalLaws.{point-found, no-point-after}
+use Rattle.text.proofs.DecimalLaws.{point-found, after-none}
 use Rattle.text.proofs.decimals.after_point.Statement.{statement}
 use Rattle.text.proofs.decimals.after_point.Tie as tie
 
@@ -22,7 +23,8 @@ returns-2 : tie.Need-returns-2
 returns-2 c =
     let at-else = c .before in
     let e = at-else .before .find .ensures in
-    rw (part-rest, e, point-found) (no-point-after _ (rw (e, point-found) at (at-else .if1 .left)))
+    let h = rw (e, point-found) at (at-else .if1 .left) in
+    rw (part-rest, e, point-found, after-none _ h) (drop-of-length-le _ h)
 
 pub after-point-spec : {M : Type 1} → statement M
 after-point-spec =

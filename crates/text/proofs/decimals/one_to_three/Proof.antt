@@ -1,4 +1,5 @@
 -- `one_to_three`: the tests are the definition's.
+use mathlib.Core.Path.{refl}
 use borrow.Author.Needs.{needs}
 use Rattle.text.specs.Decimals.{isOneToThree}
 use Rattle.text.proofs.decimals.one_to_three.Statement.{statement}
@@ -6,7 +7,7 @@ use Rattle.text.proofs.decimals.one_to_three.Tie as tie
 
 returns : tie.Need-returns
 unfolding isOneToThree
-returns c = rw (c .all-digits .ensures)
+returns c = rw (c .all-digits .ensures) refl
 
 pub one-to-three-spec : {M : Type 1} → statement M
 one-to-three-spec = tie.close (tie.spec (λ c κs. search needs) returns)

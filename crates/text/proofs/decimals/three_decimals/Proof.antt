@@ -1,4 +1,5 @@
 -- `three_decimals`: the digits at 0, 1 and 2 make the value.
+use mathlib.Core.Path.{refl}
 use borrow.Author.Needs.{needs}
 use Rattle.text.proofs.DecimalLaws.{three-decimals}
 use Rattle.text.proofs.decimals.three_decimals.Statement.{statement}
@@ -16,7 +17,7 @@ returns c =
       second .before .decimal-at2 .ensures,
       first .digit-value .ensures,
       first .before .decimal-at .ensures,
-    )
+    ) refl
 
 pub three-decimals-spec : {M : Type 1} → statement M
 three-decimals-spec =

@@ -1,6 +1,6 @@
 -- `unsigned_thousandths`: a whole part cut at 2^30 lies beyond 2^31 in thousandths.
-use mathlib.Core.Path.{_≡_}
-use Prim.Native.Nat.{_+_, _*_, min}
+use mathlib.Core.Path.{_≡_, sym, _∙_}
+use Prim.Native.Nat.{ℕ, _+_, _*_, _≤_, min}
 use native.Mathlib.Omega.{arith}
 use borrow.Author.Needs.{needs}
 use Rattle.text.specs.Decimals.{unsignedThousandths}
@@ -21,11 +21,14 @@ value c =
       whole .before .before-point .ensures,
     )
 
+cut : (n : ℕ) → 2147483647 ≤ n → min n 2147483647 ≡ 2147483647
+cut n h = omega arith
+
 returns : tie.Need-returns
 returns c = omega (arith, value (c .before))
 
 returns-2 : tie.Need-returns-2
-returns-2 c = omega (arith, value (c .before))
+returns-2 c = sym (value (c .before) ∙ cut _ (c .if1 .left))
 
 pub unsigned-thousandths-spec : {M : Type 1} → statement M
 unsigned-thousandths-spec =
