@@ -1,6 +1,6 @@
 -- Theorems about specs/Decimals: without a point nothing changes, what the point means, no minus zero; and worked examples.
 use mathlib.Core.Path.{_≡_, refl, sym, _∙_, ap}
-use mathlib.Core.Bool.{Bool, true, false, not, cond, _&&_}
+use mathlib.Core.Bool.{Bool, true, false, not, cond, _&&_, _||_}
 use mathlib.Core.Logic.{_⊎_, inl, inr}
 use mathlib.Core.List.{List, [], _∷_, _++_, map}
 use Prim.Native.Nat.{ℕ, zero, suc, _+_, _-_, _*_, _^_, _≤_, _<_}
@@ -17,7 +17,7 @@ use Rattle.text.specs.Decimals.{pointAt, hasPoint, beforePoint, afterPoi
 use Rattle.text.specs.Inner.Kept.{clampTo}
 use Rattle.text.specs.Inner.KeptDecimals.{readDecimal}
 use Rattle.text.specs.declared.decimals.Decimal.the-variants.{Bad, Thousandths}
-use Rattle.text.proofs.TestLaws.{true≢false, and-left, and-right, or-true, passed-or-failed}
+use Rattle.text.proofs.TestLaws.{true≢false, and-left, and-right, and-false, or-true, passed-or-failed, leb-iff}
 use Rattle.text.proofs.BytesLaws.{rest-cons, before-found, same-eq}
 use Rattle.text.proofs.DecimalLaws.{after-none}
 
@@ -140,6 +140,17 @@ struck v (x ∷ (y ∷ [])) h = omega arith
 struck v (x ∷ (y ∷ (z ∷ []))) h = omega arith
 struck v (x ∷ (y ∷ (z ∷ (w ∷ d)))) h = absurd (omega arith)
 
+module _ (d : List ℕ) (e : isOneToThree d ≡ true) where
+  few-digits : (leb (length d) 3 && every isDigit d) ≡ true
+  unfolding isOneToThree
+  few-digits = and-right (leb 1 (length d)) (leb (length d) 3 && every isDigit d) e
+
+  at-most-three : length d ≤ 3
+  at-most-three = leb-true (length d) 3 (and-left (leb (length d) 3) (every isDigit d) few-digits)
+
+  all-digits : every isDigit d ≡ true
+  all-digits = and-right (leb (length d) 3) (every isDigit d) few-digits
+
 digits-unsigned : (d : List ℕ) → every isDigit d ≡ true → isNegative d ≡ false
 unfolding isNegative
 digits-unsigned [] h = refl
@@ -164,12 +175,10 @@ module _ (s d : List ℕ) (h : hasPoint s ≡ false) where
 
   -- the thousandths are the value of the number with its point struck out, times ten for each decimal that is left out of three
   pub point-struck : isOneToThree d ≡ true → thousandths (s ++ (46 ∷ d)) ≡ pos (10 ^ (3 - length d)) *ℤ numberValue (s ++ d)
-  unfolding thousandths numberValue isOneToThree
+  unfolding thousandths numberValue
   point-struck e =
-      let r = and-right (leb 1 (length d)) (leb (length d) 3 && every isDigit d) e in
-      let l = leb-true (length d) 3 (and-left (leb (length d) 3) (every isDigit d) r) in
-      let n = digits-unsigned d (and-right (leb (length d) 3) (every isDigit d) r) in
-      rw (point-sign, point-value, sign-first s d n, unsigned-first s d n, digits-append, struck (digitsValue 0 (unsigned s)) d l)
+      let n = digits-unsigned d (all-digits d e) in
+      rw (point-sign, point-value, sign-first s d n, unsigned-first s d n, digits-append, struck (digitsValue 0 (unsigned s)) d (at-most-three d e))
       (signed-times (isNegative s) (10 ^ (3 - length d)) (digitsValue (digitsValue 0 (unsigned s)) d))
 
 -- ── No minus zero ──
@@ -212,7 +221,7 @@ negative-below s d n = rw n (below (unsignedThousandths (unsigned s)) (go (passe
         let e : isNumber s ≡ true = rw t at d in
         omega (arith, none-value s t, positive-some (unsigned s) (sym (negative-number s n) ∙ e))
 
--- ── Zeros behind a point ──
+-- ── Which numbers may have decimals ──
 
 module _ (s : List ℕ) (e : isNegative s ≡ false) where
   as-is : unsigned s ≡ s
@@ -223,24 +232,74 @@ module _ (s : List ℕ) (e : isNegative s ≡ false) where
   unfolding isNumber isWhole
   plain-number = rw as-is
 
--- where a whole number is not minus zero it is 01's number
-whole-number : (s : List ℕ) → (isWhole (unsigned s) && not (isNegative s && eqb (1000 * digitsValue 0 (unsigned s)) 0)) ≡ isNumber s
+plain-zero : (s : List ℕ) → isNegative s ≡ false → same s (bytes "-0") ≡ false
+unfolding isNegative same
+plain-zero [] e = refl
+plain-zero (x ∷ s) e = rw e
+
+minus-zero : (s : List ℕ) → isNegative s ≡ true → same s (bytes "-0") ≡ same (unsigned s) (bytes "0")
+unfolding isNegative unsigned same
+minus-zero [] e = refl
+minus-zero (x ∷ s) e = rw e
+
+-- a whole number of which decimals of value w make no minus zero: 01's number, or `-0` where w is not zero
+whole-number : (s : List ℕ) (w : ℕ)
+    → (isWhole (unsigned s) && not (isNegative s && eqb (1000 * digitsValue 0 (unsigned s) + w) 0)) ≡ (isNumber s || (same s (bytes "-0") && ltb 0 w))
 unfolding isWhole same
-whole-number s = go (passed-or-failed (isNegative s)) (passed-or-failed (isPositive (unsigned s))) (passed-or-failed (same (unsigned s) (bytes "0")))
+whole-number s w = go (passed-or-failed (isNegative s)) (passed-or-failed (isPositive (unsigned s))) (passed-or-failed (same (unsigned s) (bytes "0")))
   where
-    and-true : (b : Bool) → (b && true) ≡ b
-    and-true true = refl
-    and-true false = refl
+    as-it-is : (b : Bool) → (b && true) ≡ (b || false)
+    as-it-is true = refl
+    as-it-is false = refl
+
+    some : (w : ℕ) → not (eqb (1000 * digitsValue 0 (bytes "0") + w) 0) ≡ ltb 0 w
+    some zero = refl
+    some (suc w) = rw (ne-eqb (0 + suc w) 0 (λ e. omega arith)) (sym (lt-ltb 0 (suc w) (omega arith)))
 
     go : (isNegative s ≡ true) ⊎ (isNegative s ≡ false) → (isPositive (unsigned s) ≡ true) ⊎ (isPositive (unsigned s) ≡ false)
         → (same (unsigned s) (bytes "0") ≡ true) ⊎ (same (unsigned s) (bytes "0") ≡ false)
-        → (isWhole (unsigned s) && not (isNegative s && eqb (1000 * digitsValue 0 (unsigned s)) 0)) ≡ isNumber s
-    go (inr n) p z = rw (plain-number s n, as-is s n, n) (and-true (isWhole s))
+        → (isWhole (unsigned s) && not (isNegative s && eqb (1000 * digitsValue 0 (unsigned s) + w) 0)) ≡ (isNumber s || (same s (bytes "-0") && ltb 0 w))
+    go (inr n) p z = rw (plain-number s n, plain-zero s n, as-is s n, n) (as-it-is (isWhole s))
     go (inl n) (inl p) z =
-        let v = ne-eqb (1000 * digitsValue 0 (unsigned s)) 0 (λ e. omega (arith, positive-some (unsigned s) p)) in
+        let v = ne-eqb (1000 * digitsValue 0 (unsigned s) + w) 0 (λ e. omega (arith, positive-some (unsigned s) p)) in
         rw (negative-number s n, n, p, v, or-true)
-    go (inl n) (inr p) (inl z) = rw (negative-number s n, n, p, same-eq (unsigned s) (bytes "0") z)
-    go (inl n) (inr p) (inr z) = rw (negative-number s n, n, p, z)
+    go (inl n) (inr p) (inl z) = rw (negative-number s n, minus-zero s n, n, p, same-eq (unsigned s) (bytes "0") z) (some w)
+    go (inl n) (inr p) (inr z) = rw (negative-number s n, minus-zero s n, n, p, z)
+
+-- decimals filled up with zeros are zero where they were
+filled-zero : (d : List ℕ) → length d ≤ 3 → ltb 0 (digitsValue 0 (take 3 (d ++ bytes "000"))) ≡ ltb 0 (digitsValue 0 d)
+filled-zero [] h = refl
+filled-zero (x ∷ []) h = leb-iff 1 (digitsValue 0 (take 3 ((x ∷ []) ++ bytes "000"))) 1 (digitsValue 0 (x ∷ [])) (omega arith) (omega arith)
+filled-zero (x ∷ (y ∷ [])) h =
+    leb-iff 1 (digitsValue 0 (take 3 ((x ∷ (y ∷ [])) ++ bytes "000"))) 1 (digitsValue 0 (x ∷ (y ∷ []))) (omega arith) (omega arith)
+filled-zero (x ∷ (y ∷ (z ∷ []))) h = refl
+filled-zero (x ∷ (y ∷ (z ∷ (w ∷ d)))) h = absurd (omega arith)
+
+module _ (s d : List ℕ) (h : hasPoint s ≡ false) where
+  point-tests : isDecimal (s ++ (46 ∷ d))
+      ≡ (isWhole (unsigned s)
+      && (isOneToThree d && not (isNegative s && eqb (1000 * digitsValue 0 (unsigned s) + digitsValue 0 (take 3 (d ++ bytes "000"))) 0)))
+  unfolding isDecimal isMinusZero
+  point-tests =
+      rw (
+        point-has s d h,
+        point-value s d h,
+        point-sign s d h,
+        unsigned-first s (46 ∷ d) (point-unsigned d),
+        point-before (unsigned s) d (unsigned-none s h),
+        point-after s d h,
+      )
+
+  -- s, a point, and one to three digits d: a number where s is one of 01's; or where s is `-0` and d is not zero
+  pub point-decimal : isOneToThree d ≡ true → isDecimal (s ++ (46 ∷ d)) ≡ (isNumber s || (same s (bytes "-0") && ltb 0 (digitsValue 0 d)))
+  point-decimal e =
+      rw (point-tests, e, ← (filled-zero d (at-most-three d e))) (whole-number s (digitsValue 0 (take 3 (d ++ bytes "000"))))
+
+  -- with any other d no number
+  pub point-bad : isOneToThree d ≡ false → isDecimal (s ++ (46 ∷ d)) ≡ false
+  point-bad e = rw (point-tests, e) (and-false (isWhole (unsigned s)))
+
+-- ── Zeros behind a point ──
 
 -- a point and one to three zeros change neither the form nor the value
 module _ (s : List ℕ) (k : ℕ) (h : hasPoint s ≡ false) (l : 1 ≤ k) (m : k ≤ 3) where
@@ -265,20 +324,16 @@ module _ (s : List ℕ) (k : ℕ) (h : hasPoint s ≡ false) (l : 1 ≤ k) (m : 
       go (suc (suc (suc zero))) m = refl
       go (suc (suc (suc (suc k)))) m = absurd (omega arith)
 
-  pub zeros-decimal : isDecimal (s ++ (46 ∷ replicate k 48)) ≡ isDecimal s
-  unfolding isDecimal isMinusZero
-  zeros-decimal =
-      let d : List ℕ = replicate k 48 in
-      rw (
-        point-has s d h,
-        zeros-value,
-        point-sign s d h,
-        unsigned-first s (46 ∷ d) (point-unsigned d),
-        point-before (unsigned s) d (unsigned-none s h),
-        point-after s d h,
-        zeros-form,
-        h,
-      ) (whole-number s)
+  pub zeros-decimal : isDecimal (s ++ (46 ∷ replicate k 48)) ≡ isNumber s
+  zeros-decimal = point-decimal s (replicate k 48) h zeros-form ∙ rw (nothing k, and-false) (or-false (isNumber s))
+    where
+      nothing : (k : ℕ) → digitsValue 0 (replicate k 48) ≡ 0
+      nothing zero = refl
+      nothing (suc k) = nothing k
+
+      or-false : (b : Bool) → (b || false) ≡ b
+      or-false true = refl
+      or-false false = refl
 
   pub zeros-thousandths : thousandths (s ++ (46 ∷ replicate k 48)) ≡ thousandths s
   unfolding thousandths
