@@ -20,7 +20,7 @@ BOX_HEIGHT, LAYER, GAP, LETTER, MARGIN = 30, 74, 22, 8, 24
 WAY = 12                # width kept free where an arrow passes a layer
 SWEEPS = 24             # of ordering the rows
 ROUNDS = 300            # of moving the boxes
-COLOURS = ('#dddddd', '#cfe6f5', '#fbe3b5', '#cdebdf', '#f3d9e6', '#e3dcf7', '#fbd9c9', '#e9eec2', '#c9d3f0', '#ead7c3')
+COLOURS = ('#dddddd', '#cfe6f5', '#fbe3b5', '#cdebdf', '#f3d9e6', '#e3dcf7', '#fbd9c9', '#e9eec2', '#c9d3f0', '#ead7c3', '#d3ecec')
 
 
 # ---------------------------------------------------------------- crates.txt

@@ -1,0 +1,3 @@
+-- Definitions that only inner contracts and proofs cite.
+pub mod Values
+pub mod Sums
