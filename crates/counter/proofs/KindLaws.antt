@@ -22,7 +22,7 @@ use Rattle.plans.specs.declared.Kind.the-variants as K
 use Rattle.plans.proofs.IndexLaws.{and-both}
 use Rattle.plans.proofs.WordLaws.{word-there}
 use Rattle.plans.proofs.KindLaws.{by-both, length-range, earlier-low}
-use Rattle.counter.specs.Inner.Ranges.{OnScale, Vertices, Fields}
+use Rattle.counter.specs.Inner.Ranges.{OnScale, Vertices, WholeFields}
 use Rattle.counter.specs.Members.{valueIn, boxIn, polygonIn, ellipseIn, operandIn, shapeIn}
 use Rattle.counter.specs.Positions.{notOutside, isOnOutline}
 use Rattle.counter.specs.Outlines.{polygonOn, ellipseOn, shapeOn}
@@ -102,7 +102,7 @@ module _ (n k set : ℕ) (body : List ℤ) where
           go (no l) = rw (List·getD-eq-default (drop 2 body) (pos 0) {n = i} (simp length-drop (omega arith))) (lit< tt)
 
   ellipse-body : lengthGood K.Ellipse (length body) ≡ true → GoodWords K.Ellipse n k set body
-      → PlaneWithin n (planeOf body) × (8 ≤ length body) × Fields (word body 2) (word body 3) (word body 4) (word body 5) (word body 6) (word body 7)
+      → PlaneWithin n (planeOf body) × (8 ≤ length body) × WholeFields (word body 2) (word body 3) (word body 4) (word body 5) (word body 6) (word body 7)
   unfolding ellipseWord matrixWord
   ellipse-body e good =
       let m = eqb-true (length body) 8 e in (

@@ -9,9 +9,12 @@ use Rattle.integers.proofs.Order.{zarith}
 use Rattle.integers.proofs.Equality.{eqZ-true, eqZ-false, true-eqZ, false-eqZ}
 use Rattle.plans.proofs.IndexLaws.{clash}
 use Rattle.counter.specs.Polygon.{onOutline, winding, inPolygon}
+use Rattle.wide.specs.Inner.Values.{orderOf}
+use Rattle.wide.specs.declared.Order.the-variants.{Less, Equal, Greater}
 use Rattle.counter.specs.Ellipse.{form, determinant, inEllipse}
+use Rattle.counter.specs.DecimalEllipse.{decimalLeft, decimalRight, inDecimalEllipse, decimalEllipsePosition}
 use Rattle.counter.specs.Positions.{notOutside, isOnOutline, polygonPosition, bySides, ellipsePosition}
-use Rattle.counter.specs.Inner.Steps.{withoutOutline}
+use Rattle.counter.specs.Inner.Steps.{positionBy, withoutOutline}
 use Rattle.counter.specs.declared.Position.{Position}
 use Rattle.counter.specs.declared.Position.the-variants.{Outside, Inside, OnOutline}
 
@@ -76,6 +79,15 @@ module _ (l r : ℤ) where
       go false true = refl
       go false false = refl
 
+-- by their order
+pub order-sides : (l r : ℤ) → positionBy (orderOf l r) ≡ bySides l r
+order-sides l r = go (ltZ l r) (ltZ r l) refl refl
+  where
+    go : (a b : Bool) → ltZ l r ≡ a → ltZ r l ≡ b → positionBy (cond a Less (cond b Greater Equal)) ≡ bySides l r
+    go true b e f = sides-less l r e
+    go false true e f = sides-more l r f
+    go false false e f = sides-equal l r e f
+
 -- ---- ellipse
 
 module _ (m1 m2 c11 c12 c22 d2 x y : ℤ) where
@@ -88,6 +100,15 @@ module _ (m1 m2 c11 c12 c22 d2 x y : ℤ) where
   pub ellipse-on : isOnOutline (ellipsePosition m1 m2 c11 c12 c22 d2 x y) ≡ eqZ (form c11 c12 c22 (x -ℤ m1) (y -ℤ m2)) (d2 *ℤ determinant c11 c12 c22)
   unfolding ellipsePosition
   ellipse-on = sides-on (form c11 c12 c22 (x -ℤ m1) (y -ℤ m2)) (d2 *ℤ determinant c11 c12 c22)
+
+  -- the same of an ellipse with decimals
+  pub decimal-in : notOutside (decimalEllipsePosition m1 m2 c11 c12 c22 d2 x y) ≡ inDecimalEllipse m1 m2 c11 c12 c22 d2 x y
+  unfolding decimalEllipsePosition inDecimalEllipse
+  decimal-in = sides-in (decimalLeft m1 m2 c11 c12 c22 x y) (decimalRight c11 c12 c22 d2)
+
+  pub decimal-on : isOnOutline (decimalEllipsePosition m1 m2 c11 c12 c22 d2 x y) ≡ eqZ (decimalLeft m1 m2 c11 c12 c22 x y) (decimalRight c11 c12 c22 d2)
+  unfolding decimalEllipsePosition
+  decimal-on = sides-on (decimalLeft m1 m2 c11 c12 c22 x y) (decimalRight c11 c12 c22 d2)
 
 -- ---- on the outline is in the shape
 

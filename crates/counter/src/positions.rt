@@ -1,8 +1,9 @@
 // What a position says.
 ghost use mathlib.Core.Path.{_≡_};
 ghost use Rattle.counter.specs.Positions.{notOutside, isOnOutline};
-ghost use Rattle.counter.specs.Inner.Steps.{withoutOutline};
+ghost use Rattle.counter.specs.Inner.Steps.{positionBy, withoutOutline};
 use crate::Position;
+use wide::Order;
 
 // In the shape: not outside.
 pub fn not_outside(position: Position) -> bool
@@ -33,5 +34,16 @@ pub fn without_outline(member: bool) -> Position
         Position::Inside
     } else {
         Position::Outside
+    }
+}
+
+// The position by how the left side of a rule compares with the right: on the outline where both are equal.
+pub fn position_by(order: Order) -> Position
+    ensures { λ r. ⌜ r ≡ positionBy order ⌝ }
+{
+    match order {
+        Order::Less => Position::Inside,
+        Order::Equal => Position::OnOutline,
+        Order::Greater => Position::Outside,
     }
 }

@@ -25,12 +25,19 @@ pub record Coordinates (x0 y0 x1 y1 x y : ℤ) : Type 0 where
   pub x-on : OnScale x
   pub y-on : OnScale y
 
--- an ellipse's fields in their ranges
-pub record Fields (m1 m2 c11 c12 c22 d2 : ℤ) : Type 0 where
+-- an ellipse's fields in their ranges: entries within ±`most`, D² from 1 to `far`
+pub record Fields (most far : ℕ) (m1 m2 c11 c12 c22 d2 : ℤ) : Type 0 where
   pub m1-on : OnScale m1
   pub m2-on : OnScale m2
-  pub c11-in : In 16777216 c11
-  pub c12-in : In 16777216 c12
-  pub c22-in : In 16777216 c22
+  pub c11-in : In most c11
+  pub c12-in : In most c12
+  pub c22-in : In most c22
   pub d2-from : pos 1 ≤ℤ d2
-  pub d2-to : d2 ≤ℤ pos 4096
+  pub d2-to : d2 ≤ℤ pos far
+
+-- of whole numbers; in thousandths
+abbrev pub WholeFields : ℤ → ℤ → ℤ → ℤ → ℤ → ℤ → Type 0
+WholeFields m1 m2 c11 c12 c22 d2 = Fields 16777216 4096 m1 m2 c11 c12 c22 d2
+
+abbrev pub DecimalFields : ℤ → ℤ → ℤ → ℤ → ℤ → ℤ → Type 0
+DecimalFields m1 m2 c11 c12 c22 d2 = Fields 2000000000 4096000 m1 m2 c11 c12 c22 d2
