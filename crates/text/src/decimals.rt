@@ -1,10 +1,10 @@
 // Numbers with decimals: their form and what is kept of their value.
 ghost use mathlib.Core.Path.{_≡_};
 ghost use mathlib.Core.List.{_++_};
-ghost use Prim.Native.Nat.{_≤_, min};
+ghost use Prim.Native.Nat.{min};
 ghost use lib.ListN.{getD, take};
 ghost use Rattle.text.specs.Bytes.{bytes};
-ghost use Rattle.text.specs.Numbers.{digitsValue, signed};
+ghost use Rattle.text.specs.Numbers.{digitsValue};
 ghost use Rattle.text.specs.Decimals.{hasPoint, beforePoint, afterPoint, unsignedThousandths, isWhole, isOneToThree, isMinusZero, isDecimal};
 ghost use Rattle.text.specs.Inner.KeptDecimals.{readDecimal};
 use crate::lines::find;
@@ -16,6 +16,7 @@ use crate::numbers::is_number;
 use crate::numbers::negative;
 use crate::numbers::positive;
 use crate::numbers::unsigned;
+use crate::signs::signed;
 
 // What is read: no number, or its thousandths kept within ±(2^31 − 1).
 pub enum Decimal {
@@ -106,13 +107,6 @@ pub fn is_decimal(s: &[u8]) -> bool
         return whole(before_point(unsigned(s))) & (one_to_three(after_point(s)) & !minus_zero(s));
     }
     is_number(s)
-}
-
-fn signed(b: bool, n: u32) -> i32
-    requires { ⌜ n ≤ 2147483647 ⌝ }
-    ensures { λ r. ⌜ r ≡ signed b n ⌝ }
-{
-    if b { 0 - n as i32 } else { n as i32 }
 }
 
 // The number that s is, its thousandths kept within ±(2^31 − 1).
