@@ -3,6 +3,7 @@ ghost use mathlib.Core.Path.{_≡_};
 ghost use mathlib.Core.Bool.{cond};
 ghost use Prim.Native.Nat.{_-_};
 ghost use lib.ListN.{length, drop};
+ghost use Rattle.text.specs.Bytes.{same as sameBytes};
 ghost use Rattle.text.specs.Lines.{fields};
 ghost use Rattle.gates.specs.Kinds.{kindNamed, lineKind, stepKind, isUnknown, isQuad, isStar, isNone, isParent, isComplement, operandName, isOperand, dimensionOf, valueOf};
 use gates::LineKind;
@@ -28,31 +29,23 @@ pub fn minus(x: usize, y: usize) -> usize
     if x < y { 0 } else { x - y }
 }
 
+// A kind where x is its name, or another.
+fn kind_or(x: &[u8], name: &[u8], kind: LineKind, other: LineKind) -> LineKind
+    ensures { λ r. ⌜ r ≡ cond (sameBytes (now (x .entry)) (now (name .entry))) kind other ⌝ }
+{
+    if same(x, name) { kind } else { other }
+}
+
 fn kind_named(x: &[u8]) -> LineKind
     ensures { λ r. ⌜ r ≡ kindNamed (now (x .entry)) ⌝ }
 {
-    if same(x, b"rect") {
-        return LineKind::Rect;
-    }
-    if same(x, b"poly") {
-        return LineKind::Poly;
-    }
-    if same(x, b"ellip") {
-        return LineKind::Ellip;
-    }
-    if same(x, b"quad") {
-        return LineKind::Quad;
-    }
-    if same(x, b"and") {
-        return LineKind::And;
-    }
-    if same(x, b"or") {
-        return LineKind::Or;
-    }
-    if same(x, b"not") {
-        return LineKind::Not;
-    }
-    LineKind::Unknown
+    let kind = kind_or(x, b"not", LineKind::Not, LineKind::Unknown);
+    let kind = kind_or(x, b"or", LineKind::Or, kind);
+    let kind = kind_or(x, b"and", LineKind::And, kind);
+    let kind = kind_or(x, b"quad", LineKind::Quad, kind);
+    let kind = kind_or(x, b"ellip", LineKind::Ellip, kind);
+    let kind = kind_or(x, b"poly", LineKind::Poly, kind);
+    kind_or(x, b"rect", LineKind::Rect, kind)
 }
 
 // The kind of a line.
