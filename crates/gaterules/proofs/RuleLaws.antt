@@ -1,8 +1,8 @@
 -- Laws of the rules, as the code applies them.
-use mathlib.Core.Path.{_≡_, sym, ap, _∙_}
+use mathlib.Core.Path.{_≡_, ap}
 use mathlib.Core.Bool.{Bool, true, false, cond, _&&_}
 use mathlib.Core.List.{List}
-use Prim.Native.Nat.{ℕ, zero, suc, _+_, _-_, _≤_}
+use Prim.Native.Nat.{ℕ, zero, suc, _≤_}
 use native.Mathlib.Omega.{arith}
 use lib.IntN.{ℤ}
 use lib.Signed.{leZ}
@@ -11,10 +11,8 @@ use Rattle.text.specs.Inner.Kept.{readNumber}
 use Rattle.integers.specs.Range.{inRange}
 use Rattle.text.specs.declared.numbers.Number.the-variants.{Bad, Value}
 use Rattle.text.proofs.NumbersLaws.{within-clamp, bad-read, value-read}
-use Rattle.gates.specs.declared.LineKind.{LineKind}
-use Rattle.gates.specs.declared.LineKind.the-variants.{Quad}
-use Rattle.gates.proofs.AcceptedLaws.{Bound, rule-body}
-use Rattle.gates.specs.Rules.{unless, bodyRule, quadRule, ruleOf, numberRefusal}
+use Rattle.gates.proofs.AcceptedLaws.{Bound}
+use Rattle.gates.specs.Rules.{unless, numberRefusal}
 
 pub last-below : (f : ℕ → Bool) (n : ℕ) → last f 0 n ≤ n
 last-below f zero = omega arith
@@ -35,11 +33,3 @@ unfolding numberRefusal inRange
 number-value lo hi v x g h e =
     let w = value-read x v e in
     rw (w .0, w .1) (ap (λ (b : Bool). unless b 8) (within-clamp lo hi _ g h))
-
--- ---- rules from field 3 on
-
-pub rule-later : (kind : LineKind) (fs : List (List ℕ)) (k : ℕ) → (k ≡ 0 → ⊥) → (k ≡ 1 → ⊥) → (k ≡ 2 → ⊥) → bodyRule kind fs (k - 3) ≡ ruleOf kind fs k
-rule-later kind fs k p q r = let e : 3 + (k - 3) ≡ k = omega arith in sym (rule-body kind fs (k - 3)) ∙ ap (ruleOf kind fs) e
-
-pub rule-quad : (fs : List (List ℕ)) (k : ℕ) → (k ≡ 0 → ⊥) → (k ≡ 1 → ⊥) → (k ≡ 2 → ⊥) → quadRule fs k ≡ ruleOf Quad fs k
-rule-quad fs k p q r = let e : 3 + (k - 3) ≡ k = omega arith in ap (quadRule fs) (sym e) ∙ rule-later Quad fs k p q r

@@ -1,10 +1,10 @@
 // Refusals 6 to 10 of a gate line: a rule for each field, and the least refusal that a field earns.
 ghost use mathlib.Core.Path.{_≡_};
-ghost use Prim.Native.Nat.{_≤_, min};
+ghost use Prim.Native.Nat.{_+_, _≤_, min};
 ghost use lib.ListN.{drop};
 ghost use Rattle.text.specs.Lines.{fields};
 ghost use Rattle.gates.proofs.AcceptedLaws.{Bound};
-ghost use Rattle.gates.specs.Rules.{rectRule, polyRule, ellipRule, dividerRule, dividerOf, quadRule, ruleOf, isDimension};
+ghost use Rattle.gates.specs.Rules.{rectRule, polyRule, ellipRule, dividerRule, dividerOf, quadRule, bodyRule, ruleOf, isDimension};
 ghost use Rattle.gates.specs.Rules.{dimensionPasses, numberRefusal, optionalRefusal, fieldRefusal, fieldsRefusal, unless as unlessOf, repeated as isRepeated, uncrossed as risesOf};
 use gatefields::fields::dimension_of;
 use gatefields::fields::is_operand;
@@ -111,6 +111,23 @@ fn quad_rule(line: &[u8], k: usize) -> Rule
     Rule::Representative
 }
 
+// What field k, the one with index i after the parent, is judged as.
+fn body_rule(kind: LineKind, line: &[u8], i: usize, k: usize) -> Rule
+    requires { ⌜ k ≡ 3 + i ⌝ }
+    ensures { λ r. ⌜ r ≡ bodyRule kind (fields (now (line .entry))) i ⌝ }
+{
+    match kind {
+        LineKind::Rect => rect_rule(i),
+        LineKind::Poly => poly_rule(i),
+        LineKind::Ellip => ellip_rule(i),
+        LineKind::Quad => quad_rule(line, k),
+        LineKind::And => Rule::Operand,
+        LineKind::Or => Rule::Operand,
+        LineKind::Not => Rule::Operand,
+        LineKind::Unknown => Rule::Free,
+    }
+}
+
 // What field k is judged as.
 pub fn rule_of(kind: LineKind, line: &[u8], k: usize) -> Rule
     ensures { λ r. ⌜ r ≡ ruleOf kind (fields (now (line .entry))) k ⌝ }
@@ -124,16 +141,7 @@ pub fn rule_of(kind: LineKind, line: &[u8], k: usize) -> Rule
     if k == 2 {
         return Rule::Parent;
     }
-    match kind {
-        LineKind::Rect => rect_rule(k - 3),
-        LineKind::Poly => poly_rule(k - 3),
-        LineKind::Ellip => ellip_rule(k - 3),
-        LineKind::Quad => quad_rule(line, k),
-        LineKind::And => Rule::Operand,
-        LineKind::Or => Rule::Operand,
-        LineKind::Not => Rule::Operand,
-        LineKind::Unknown => Rule::Free,
-    }
+    body_rule(kind, line, k - 3, k)
 }
 
 fn is_dimension(rule: Rule) -> bool
