@@ -5,10 +5,12 @@ ghost use Prim.Native.Nat.{_-_};
 ghost use lib.ListN.{length, drop};
 ghost use Rattle.text.specs.Bytes.{same as sameBytes};
 ghost use Rattle.text.specs.Lines.{fields};
+ghost use Rattle.gates.specs.Inner.Regions.{combines as combinesOf};
 ghost use Rattle.gates.specs.Kinds.{kindNamed, lineKind, stepKind, isUnknown, isQuad, isStar, isNone, isParent, isComplement, operandName, isOperand, dimensionOf, valueOf};
 use gates::LineKind;
 use plans::Kind;
 use plans::form::is_known;
+use plans::form::kind_number;
 use text::lines::field;
 use text::lines::field_count;
 use text::lines::find_field;
@@ -90,6 +92,14 @@ pub fn is_quad(kind: LineKind) -> bool
         LineKind::Not => false,
         LineKind::Unknown => false,
     }
+}
+
+// Whether the gate of a line combines operands.
+pub fn combines(kind: LineKind) -> bool
+    ensures { λ r. ⌜ r ≡ combinesOf kind ⌝ }
+{
+    let n = kind_number(step_kind(kind));
+    (4 <= n) & (n <= 6)
 }
 
 pub fn is_star(x: &[u8]) -> bool

@@ -2,12 +2,19 @@
 use mathlib.Core.Path.{_≡_, refl, sym, _∙_}
 use mathlib.Core.Bool.{Bool, true, false, cond}
 use mathlib.Core.List.{List, [], _∷_}
-use Prim.Native.Nat.{ℕ, _+_, _-_, _*_, _<_, _≤_}
+use Prim.Native.Nat.{ℕ, _+_, _-_, _*_, _^_, _<_, _≤_}
 use native.Mathlib.Omega.{arith}
 use borrow.Author.Tests.{lt-ltb}
 use lib.Dec.{eqb, ltb}
-use lib.ListN.{length}
+use lib.IntN.{ℤ, pos}
+use lib.ListN.{length, getD}
+use lib.Signed.{mag}
+use mir.Syntax.{w32}
+use mir.Val.{hbits, toZ, ofZ}
+use mir.ValLaws.{toZ-ofZ}
 use Rattle.text.specs.Bytes.{same}
+use Rattle.text.specs.Bounded.{tab}
+use Rattle.text.proofs.BoundedLaws.{getD-tab}
 use Rattle.text.proofs.BytesLaws.{before-le}
 use Rattle.text.specs.Lines.{push, parts, fields}
 use Rattle.plans.specs.Indices.{howMany}
@@ -53,6 +60,10 @@ cond-lt q n a b r h e = e ∙ rw (lt-ltb q n h)
 pub dimension-le : (head : List (List ℕ)) (x : List ℕ) → dimensionOf head x ≤ length head
 unfolding dimensionOf
 dimension-le head x = before-le (same x) head
+
+-- a word of a table of words that is returned
+pub word-in-table : (f : ℕ → ℤ) (m : ℕ) {i : ℕ} {w : ℤ} → i < m → mag w < 2 ^ hbits w32 → w ≡ f i → toZ w32 (ofZ w32 w) ≡ getD (tab f m) i (pos 0)
+word-in-table f m {i} {w} h small e = toZ-ofZ w32 w (record { sfits = small }) ∙ e ∙ sym (getD-tab f (pos 0) m i h)
 
 -- ---- quad lines and others
 

@@ -69,7 +69,7 @@ fn plane_word(head: &[u8], line: &[u8], i: usize) -> i32
     value_of(x)
 }
 
-// Word i of the body of a rect, poly or ellip line.
+// Word i of what a line draws with all its fields.
 pub fn line_word(head: &[u8], kind: LineKind, line: &[u8], i: usize) -> i32
     requires { ⌜ (length (drop 1 (fields (now head))) ≤ 8) × (i < length (fields (now line)) - 3) ⌝ }
     ensures { λ r. ⌜ r ≡ lineWord (drop 1 (fields (now (head .entry)))) kind (fields (now (line .entry))) i ⌝ }

@@ -12,6 +12,7 @@ use lib.ListN.{length, getD, length-map, List·getD-map}
 use lib.Seq.{ext-getD}
 use borrow.Author.Tests.{lt-ltb, ltb-true, eq-eqb, ne-eqb, eqb-true, not-true}
 use Rattle.plans.specs.Indices.{firstBad}
+use Rattle.plans.specs.Kinds.{spans}
 use Rattle.plans.proofs.IndexLaws.{all-at, all-of, first-at, first-before, first-is, first-from}
 use Rattle.text.specs.Bytes.{same}
 use Rattle.text.specs.Bounded.{tab}
@@ -21,11 +22,12 @@ use Rattle.text.proofs.TestLaws.{true≢false, and-left, and-right}
 use Rattle.gates.specs.Gate.{Name, Operand, Quadrant, Region, gateRegions}
 use Rattle.gates.specs.Kinds.{fieldAt, lineKind, isQuad, isNone, operandName}
 use Rattle.gates.specs.Quads.{quadrantCount, quadrantAt}
-use Rattle.gates.specs.Inner.Regions.{regionCount, regionName}
+use Rattle.gates.specs.Inner.Regions.{regionCount, regionName, stepNumber, combines}
 use Rattle.gates.specs.Meaning.{quadrantOf, operandOf, operandsOf, bodyOf, parentOf, gateOf}
 use Rattle.gates.specs.declared.LineKind.{LineKind}
-use Rattle.gates.specs.declared.LineKind.the-variants.{Rect, Poly, Ellip, Quad, And, Or, Not, Unknown}
+use Rattle.gates.specs.declared.LineKind.the-variants.{Quad, And, Or, Not, Unknown}
 use Rattle.gates.proofs.GateLaws.{map-tab, region-count, region-at}
+use Rattle.gates.proofs.LineSorts.{LineSort, drawn-line, quad-line, and-line, or-line, not-line, unknown-line, sort-of}
 use Rattle.tables.specs.Table.{_∈_, someOf, noRegion, quadrantNames, ownNames, different, names, parentNames, bodyReferences, gateReferences}
 use Rattle.tables.specs.Further.Rules.{Distinct}
 use Rattle.tables.specs.Reaching.{isIn, refersTo}
@@ -62,15 +64,14 @@ module _ (head fs : List (List ℕ)) where
 
   -- ---- names given
 
-  quadrants-in : (kind : LineKind) → quadrantNames (bodyOf head kind fs) ≡ tab (λ q. fieldAt fs (quadrantAt fs q)) (cond (isQuad kind) (quadrantCount fs) 0)
-  quadrants-in Rect = refl
-  quadrants-in Poly = refl
-  quadrants-in Ellip = refl
-  quadrants-in Quad = map-tab (λ (q : Quadrant). q .name) (quadrantOf head fs) (quadrantCount fs)
-  quadrants-in And = refl
-  quadrants-in Or = refl
-  quadrants-in Not = refl
-  quadrants-in Unknown = refl
+  quadrants-in : (kind : LineKind) → LineSort head fs kind
+      → quadrantNames (bodyOf head kind fs) ≡ tab (λ q. fieldAt fs (quadrantAt fs q)) (cond (isQuad kind) (quadrantCount fs) 0)
+  quadrants-in kind (drawn-line d) = rw (d .body, d .alone)
+  quadrants-in Quad quad-line = map-tab (λ (q : Quadrant). q .name) (quadrantOf head fs) (quadrantCount fs)
+  quadrants-in And and-line = refl
+  quadrants-in Or or-line = refl
+  quadrants-in Not not-line = refl
+  quadrants-in Unknown unknown-line = refl
 
   quad-inside : (q : ℕ) → q < quadCount fs → q < quadrantCount fs
   unfolding quadCount
@@ -84,7 +85,7 @@ module _ (head fs : List (List ℕ)) where
   unfolding gateOf quadCount quadrantName
   own-listed =
       ap (λ (l : List Name). fieldAt fs 1 ∷ l)
-      (quadrants-in (lineKind fs)
+      (quadrants-in (lineKind fs) (sort-of head fs (lineKind fs))
       ∙ tab-ext (λ q. fieldAt fs (quadrantAt fs q)) (quadrantName fs) (quadCount fs) (λ q h. rw (lt-ltb q (quadrantCount fs) (quad-inside q h))))
 
   pub gives-name : (x : Name) → givesName fs x ≡ isIn (ownNames (gateOf head fs)) x
@@ -167,33 +168,28 @@ module _ (head fs : List (List ℕ)) where
 
   pub end-past : 2 < referenceEnd fs
   unfolding referenceEnd
-  end-past = go (lineKind fs)
+  end-past = go (combines (lineKind fs)) (eqb (stepNumber (lineKind fs)) 6)
     where
-      go : (kind : LineKind) → 2 < endIn kind (length fs)
-      go Rect = omega arith
-      go Poly = omega arith
-      go Ellip = omega arith
-      go Quad = omega arith
-      go And = omega arith
-      go Or = omega arith
-      go Not = omega arith
-      go Unknown = omega arith
+      go : (some single : Bool) → 2 < cond some (cond single 4 (max 3 (length fs))) 3
+      go true true = omega arith
+      go true false = omega arith
+      go false single = omega arith
 
-  operands-in : (kind : LineKind) → bodyReferences (bodyOf head kind fs) ≡ tab (λ j. operandName (fieldAt fs (3 + j))) (endIn kind (length fs) - 3)
-  operands-in Rect = refl
-  operands-in Poly = refl
-  operands-in Ellip = refl
-  operands-in Quad = refl
-  operands-in And = combined
-  operands-in Or = combined
-  operands-in Not = refl
-  operands-in Unknown = refl
+  operands-in : (kind : LineKind) → LineSort head fs kind
+      → bodyReferences (bodyOf head kind fs) ≡ tab (λ j. operandName (fieldAt fs (3 + j))) (endIn kind (length fs) - 3)
+  unfolding spans
+  operands-in kind (drawn-line d) = rw (d .body, d .uncombined)
+  operands-in Quad quad-line = refl
+  operands-in And and-line = combined
+  operands-in Or or-line = combined
+  operands-in Not not-line = refl
+  operands-in Unknown unknown-line = refl
 
   -- the parent's name, then the operands'
   pub references-listed : gateReferences (gateOf head fs)
       ≡ parentNames (parentOf (fieldAt fs 2)) ++ tab (λ j. operandName (fieldAt fs (3 + j))) (referenceEnd fs - 3)
   unfolding gateOf referenceEnd
-  references-listed = ap (λ (l : List Name). parentNames (parentOf (fieldAt fs 2)) ++ l) (operands-in (lineKind fs))
+  references-listed = ap (λ (l : List Name). parentNames (parentOf (fieldAt fs 2)) ++ l) (operands-in (lineKind fs) (sort-of head fs (lineKind fs)))
 
   -- the fields from 2 on hold the references
   pub reference-in : (k : ℕ) → 2 ≤ k → k < referenceEnd fs → hasReference fs k ≡ true → referenceAt fs k ∈ gateReferences (gateOf head fs)

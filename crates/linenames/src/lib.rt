@@ -3,16 +3,19 @@ ghost use mathlib.Core.Path.{_≡_};
 ghost use Prim.Native.Nat.{_≤_, max};
 ghost use Rattle.text.specs.Lines.{fields};
 ghost use Rattle.linenames.specs.Inner.LineNames.{regionNamed, namesRegion, quadCount, quadrantName, quadrantNamed, givesName, sharesName, newQuadrant, ownDifferent, endIn, referenceEnd, hasReference, referenceAt, refersLine};
+use gatefields::fields::combines;
 use gatefields::fields::is_none;
 use gatefields::fields::is_quad;
 use gatefields::fields::kind_of;
 use gatefields::fields::operand_name;
 use gatefields::fields::pick;
+use gatefields::fields::step_kind;
 use gatefields::quads::quadrant_at;
 use gatefields::quads::quadrant_count;
 use gatelines::regions::region_count;
 use gatelines::regions::region_name;
 use gates::LineKind;
+use plans::form::kind_number;
 use text::lines::field;
 use text::lines::field_count;
 use text::names::same;
@@ -109,16 +112,13 @@ pub fn own_different(line: &[u8]) -> bool
 fn end_in(kind: LineKind, n: usize) -> usize
     ensures { λ r. ⌜ (r ≡ endIn kind n) × (3 ≤ r) ⌝ }
 {
-    match kind {
-        LineKind::Rect => 3,
-        LineKind::Poly => 3,
-        LineKind::Ellip => 3,
-        LineKind::Quad => 3,
-        LineKind::And => at_least_3(n),
-        LineKind::Or => at_least_3(n),
-        LineKind::Not => 4,
-        LineKind::Unknown => 3,
+    if !combines(kind) {
+        return 3;
     }
+    if kind_number(step_kind(kind)) == 6 {
+        return 4;
+    }
+    at_least_3(n)
 }
 
 fn at_least_3(n: usize) -> usize

@@ -12,17 +12,17 @@ use Rattle.text.specs.Lines.{fields, lines}
 use Rattle.text.specs.Output.{over, Writes}
 use Rattle.gates.specs.Gate.{Region}
 use Rattle.gates.specs.Kinds.{fieldAt, lineKind, isNone, isComplement, operandName}
-use Rattle.gates.specs.Inner.Regions.{regionCount, bodyWordOf}
+use Rattle.gates.specs.Inner.Regions.{regionCount, combines, bodyWordOf}
 use Rattle.tables.specs.Head.{headFields, dimensions}
 use Rattle.tables.specs.Table.{numberOf}
 use Rattle.tables.specs.Refusals.{isRegion}
 use Rattle.tables.specs.Steps.{stepWords}
 use Rattle.linenames.specs.Inner.LineNames.{hasReference, referenceAt}
 use Rattle.linenames.proofs.LineLaws.{end-past}
-use Rattle.resolve.specs.Inner.Reading.{lineAt, fieldsAt, gatesAt, regionsAt}
+use Rattle.resolve.specs.Inner.Reading.{lineAt, fieldsAt, regionsAt}
 use Rattle.resolve.proofs.ReadLaws.{count-fits, region-read}
 use Rattle.resolve.proofs.LivingLaws.{living-here}
-use Rattle.writer.specs.Inner.Words.{header, operandNumberWord, stepBy, combines, operandAt, parentNumber, lineStep}
+use Rattle.writer.specs.Inner.Words.{header, operandNumberWord, stepBy, operandAt, parentNumber, lineStep}
 use Rattle.writer.proofs.WordLaws.{step-more}
 use Rattle.writer.proofs.StepTheorems.{line-step, line-step-short}
 use Rattle.tableregions.specs.Inner.Settled.{Settled}

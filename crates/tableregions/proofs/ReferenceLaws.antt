@@ -16,12 +16,10 @@ use Rattle.text.specs.Bounded.{tab}
 use Rattle.text.specs.Lines.{fields}
 use Rattle.text.proofs.BoundedLaws.{getD-tab}
 use Rattle.text.proofs.TestLaws.{passed-or-failed}
-use Rattle.gates.specs.declared.LineKind.{LineKind}
-use Rattle.gates.specs.declared.LineKind.the-variants.{Rect, Poly, Ellip, Quad, And, Or, Not, Unknown}
 use Rattle.gates.specs.Kinds.{fieldAt, lineKind, isNone, operandName}
-use Rattle.gates.specs.Gate.{Name, Region}
+use Rattle.gates.specs.Gate.{Name, Body, one, quad, Region}
 use Rattle.gates.specs.Meaning.{bodyOf, parentOf, gateOf}
-use Rattle.gates.specs.Inner.Regions.{regionCount, lineShape, regionShape}
+use Rattle.gates.specs.Inner.Regions.{regionCount, bodyShape, regionShape}
 use Rattle.tables.specs.Table.{_∈_, someOf, nthRegion, numberOf, operandNames, parentNames, bodyReferences, gateReferences, references}
 use Rattle.tables.specs.Head.{dimensions}
 use Rattle.tables.specs.Refusals.{isRegion, living}
@@ -38,16 +36,9 @@ use Rattle.tableregions.proofs.PlaceLaws.{place-is, quadrant-inside, ga
 
 -- ---- each region of a gate refers to what the gate refers to
 
-same-references : (head : List (List ℕ)) (kind : LineKind) (fs : List (List ℕ)) (q : ℕ)
-    → operandNames (lineShape head kind fs q) ≡ bodyReferences (bodyOf head kind fs)
-same-references head Rect fs q = refl
-same-references head Poly fs q = refl
-same-references head Ellip fs q = refl
-same-references head Quad fs q = refl
-same-references head And fs q = refl
-same-references head Or fs q = refl
-same-references head Not fs q = refl
-same-references head Unknown fs q = refl
+same-references : (head fs : List (List ℕ)) (q : ℕ) (b : Body) → operandNames (bodyShape head fs q b) ≡ bodyReferences b
+same-references head fs q (one s) = refl
+same-references head fs q (quad qs) = refl
 
 region-references : (text starts : List ℕ) (n i : ℕ) → i < n → (q : ℕ) → q < regionCount (fieldsAt text starts i)
     → references (nthRegion (regionsAt text starts n) (length (regionsAt text starts i) + q)) ≡ gateReferences (gateAt text starts i)
@@ -55,7 +46,7 @@ unfolding regionShape gateOf
 region-references text starts n i h q l =
     let fs = fieldsAt text starts i in
     ap references (region-read text starts n i h q l)
-    ∙ ap (λ (x : List Name). parentNames (parentOf (fieldAt fs 2)) ++ x) (same-references (dimensions text) (lineKind fs) fs q)
+    ∙ ap (λ (x : List Name). parentNames (parentOf (fieldAt fs 2)) ++ x) (same-references (dimensions text) fs q (bodyOf (dimensions text) (lineKind fs) fs))
 
 -- the references of a region are those of the gate that it stands at
 pub located-references : (text starts : List ℕ) (n r : ℕ) {x : Located} → x ≡ locatedAt text starts n r → x .gate < n

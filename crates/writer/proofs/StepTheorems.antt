@@ -3,32 +3,33 @@ use mathlib.Core.Path.{_≡_, refl, sym, ap, _∙_}
 use mathlib.Core.Bool.{Bool, true, false, cond}
 use mathlib.Core.Logic.{_⊎_, inl, inr}
 use mathlib.Core.List.{List}
-use Prim.Native.Nat.{ℕ, _+_, _-_, _*_, _%_, _≤_, _<_, min}
+use Prim.Native.Nat.{ℕ, _+_, _-_, _*_, _≤_, _<_, min}
 use native.Mathlib.Omega.{arith}
-use borrow.Author.Tests.{leb-true, eqb-true, lt-ltb}
-use lib.Dec.{eqb, leb}
+use borrow.Author.Tests.{eqb-true, lt-ltb}
 use lib.IntN.{ℤ, pos}
 use lib.ListN.{length}
 use Rattle.text.specs.Bounded.{tab}
-use Rattle.text.proofs.TestLaws.{true≢false, and-left, and-right, passed-or-failed}
+use Rattle.text.proofs.TestLaws.{true≢false, passed-or-failed}
 use Rattle.text.proofs.BoundedLaws.{length-tab, tab-ext}
-use Rattle.plans.specs.Kinds.{kindNumber, spans, spansBy}
+use Rattle.plans.specs.Kinds.{kindNumber, spans}
 use Rattle.plans.proofs.IndexLaws.{first-to}
+use Rattle.plans.proofs.KindLaws.{length-range}
 use Rattle.gates.specs.declared.LineKind.{LineKind}
-use Rattle.gates.specs.declared.LineKind.the-variants.{Rect, Poly, Ellip, Quad, And, Or, Not, Unknown}
-use Rattle.gates.specs.Kinds.{fieldAt, lineKind, isUnknown, isQuad, isNone, isComplement, operandName}
+use Rattle.gates.specs.declared.LineKind.the-variants.{Quad, And, Or, Not, Unknown}
+use Rattle.gates.specs.Kinds.{fieldAt, lineKind, stepKind, isUnknown, isQuad, isNone, isComplement, operandName}
 use Rattle.gates.specs.Quads.{dividerCount}
 use Rattle.gates.specs.Rules.{noRefusal}
 use Rattle.gates.specs.Refusal.{lineRefusal}
-use Rattle.gates.specs.Gate.{Name, Leaf, rect, poly, ellip, quadrant, leaf, Region}
+use Rattle.gates.specs.Gate.{Name, Leaf, quadrant, leaf, Region}
 use Rattle.gates.specs.Meaning.{operandOf, parentOf}
-use Rattle.gates.specs.Inner.Regions.{regionCount, regionName, lineShape, regionShape, stepNumber, bodyLength, bodyWordOf}
+use Rattle.gates.specs.Inner.Regions.{regionCount, regionName, lineShape, regionShape, stepNumber, combines, bodyLength, bodyWordOf}
 use Rattle.gates.proofs.AcceptedLaws.{Accepted}
 use Rattle.gates.proofs.QuadLaws.{count-small}
+use Rattle.gates.proofs.LineSorts.{LineSort, drawn-line, quad-line, and-line, or-line, not-line, unknown-line, sort-of}
 use Rattle.gates.proofs.GateLaws.{map-tab, leaf-words, line-accepted}
 use Rattle.tables.specs.Table.{nthRegion, otherName, numberOf}
 use Rattle.tables.specs.Steps.{shapeKind, referenceWord, bodyWords, parentWord, stepWords}
-use Rattle.writer.specs.Inner.Words.{numberWord, parentNumberWord, header, operandNumberWord, stepBy, combines, operandAt, parentNumber, lineStep}
+use Rattle.writer.specs.Inner.Words.{numberWord, parentNumberWord, header, operandNumberWord, stepBy, operandAt, parentNumber, lineStep}
 use Rattle.writer.proofs.WordLaws.{step-length}
 
 -- ---- numbers that are words as they are
@@ -56,62 +57,48 @@ module _ (rs : List Region) (x : List ℕ) where
           let m : min 64 (numberOf rs x) ≡ numberOf rs x = omega arith in
           rw (e, m, lt-ltb (numberOf rs x) 64 b)
 
--- ---- by the kind of an accepted line
+-- ---- by the sort of an accepted line
 
-kind-in : (head : List (List ℕ)) (kind : LineKind) (fs : List (List ℕ)) (q : ℕ) → isUnknown kind ≡ false
+kind-in : (head : List (List ℕ)) (kind : LineKind) (fs : List (List ℕ)) (q : ℕ) → LineSort head fs kind → isUnknown kind ≡ false
     → stepNumber kind ≡ kindNumber (shapeKind (lineShape head kind fs q))
-kind-in head Rect fs q u = refl
-kind-in head Poly fs q u = refl
-kind-in head Ellip fs q u = refl
-kind-in head Quad fs q u = refl
-kind-in head And fs q u = refl
-kind-in head Or fs q u = refl
-kind-in head Not fs q u = refl
-kind-in head Unknown fs q u = absurd (true≢false u)
-
-span-high : (lo hi m : ℕ) → spans lo hi m ≡ true → m ≤ hi
-unfolding spans
-span-high lo hi m e = leb-true m hi (and-right (leb lo m) (leb m hi) e)
-
-span-by-high : (s lo hi m : ℕ) → spansBy s lo hi m ≡ true → m ≤ hi
-unfolding spansBy
-span-by-high s lo hi m e = span-high lo hi m (and-left (spans lo hi m) (eqb (m % s) 0) e)
+kind-in head kind fs q (drawn-line d) u = rw (d .body) (ap kindNumber (sym (d .step)))
+kind-in head Quad fs q quad-line u = refl
+kind-in head And fs q and-line u = refl
+kind-in head Or fs q or-line u = refl
+kind-in head Not fs q not-line u = refl
+kind-in head Unknown fs q unknown-line u = absurd (true≢false u)
 
 length-in : (head : List (List ℕ)) (kind : LineKind) (fs : List (List ℕ)) → Accepted head kind fs
     → cond (isQuad kind) (3 * dividerCount fs) (length fs - 3) ≤ 65535
-length-in head Rect fs a = omega (arith, span-by-high 3 3 24 (length fs - 3) (a .shape))
-length-in head Poly fs a = omega (arith, span-by-high 2 8 514 (length fs - 3) (a .shape))
-length-in head Ellip fs a = omega (arith, eqb-true (length fs - 3) 8 (a .shape))
-length-in head Quad fs a = omega (arith, count-small (fieldAt fs 3))
-length-in head And fs a = omega (arith, span-high 2 63 (length fs - 3) (a .shape))
-length-in head Or fs a = omega (arith, span-high 2 63 (length fs - 3) (a .shape))
-length-in head Not fs a = omega (arith, eqb-true (length fs - 3) 1 (a .shape))
-length-in head Unknown fs a = absurd (true≢false (a .known))
+length-in head kind fs a = go (passed-or-failed (isQuad kind))
+  where
+    go : (isQuad kind ≡ true) ⊎ (isQuad kind ≡ false) → cond (isQuad kind) (3 * dividerCount fs) (length fs - 3) ≤ 65535
+    go (inl e) = rw e (let h = count-small (fieldAt fs 3) in omega arith)
+    go (inr e) = rw e (let h = length-range (stepKind kind) (length fs - 3) (rw e at (a .shape)) in omega arith)
 
-leaf-in : (head : List (List ℕ)) (kind : LineKind) (fs : List (List ℕ)) (q : ℕ) → isUnknown kind ≡ false → combines kind ≡ false
+leaf-in : (head : List (List ℕ)) (kind : LineKind) (fs : List (List ℕ)) (q : ℕ) → LineSort head fs kind → isUnknown kind ≡ false → combines kind ≡ false
     → (l : Leaf) × (lineShape head kind fs q ≡ leaf l)
-leaf-in head Rect fs q u c = (rect head fs, refl)
-leaf-in head Poly fs q u c = (poly head fs, refl)
-leaf-in head Ellip fs q u c = (ellip head fs, refl)
-leaf-in head Quad fs q u c = (quadrant head fs q, refl)
-leaf-in head And fs q u c = absurd (true≢false c)
-leaf-in head Or fs q u c = absurd (true≢false c)
-leaf-in head Not fs q u c = absurd (true≢false c)
-leaf-in head Unknown fs q u c = absurd (true≢false u)
+unfolding spans
+leaf-in head kind fs q (drawn-line d) u c = (d .shape, rw (d .body))
+leaf-in head Quad fs q quad-line u c = (quadrant head fs q, refl)
+leaf-in head And fs q and-line u c = absurd (true≢false c)
+leaf-in head Or fs q or-line u c = absurd (true≢false c)
+leaf-in head Not fs q not-line u c = absurd (true≢false c)
+leaf-in head Unknown fs q unknown-line u c = absurd (true≢false u)
 
 abbrev reference : List Region → List (List ℕ) → ℕ → ℤ
 reference rs fs j = referenceWord rs (operandOf (fieldAt fs (3 + j)))
 
-operands-in : (rs : List Region) (head : List (List ℕ)) (kind : LineKind) (fs : List (List ℕ)) (q : ℕ) → Accepted head kind fs → combines kind ≡ true
+operands-in : (rs : List Region) (head : List (List ℕ)) (kind : LineKind) (fs : List (List ℕ)) (q : ℕ) → LineSort head fs kind → Accepted head kind fs
+    → combines kind ≡ true
     → bodyWords rs (lineShape head kind fs q) ≡ tab (reference rs fs) (cond (isQuad kind) (3 * dividerCount fs) (length fs - 3))
-operands-in rs head Rect fs q a c = absurd (true≢false (sym c))
-operands-in rs head Poly fs q a c = absurd (true≢false (sym c))
-operands-in rs head Ellip fs q a c = absurd (true≢false (sym c))
-operands-in rs head Quad fs q a c = absurd (true≢false (sym c))
-operands-in rs head And fs q a c = map-tab (referenceWord rs) (λ j. operandOf (fieldAt fs (3 + j))) (length fs - 3)
-operands-in rs head Or fs q a c = map-tab (referenceWord rs) (λ j. operandOf (fieldAt fs (3 + j))) (length fs - 3)
-operands-in rs head Not fs q a c = rw (eqb-true (length fs - 3) 1 (a .shape))
-operands-in rs head Unknown fs q a c = absurd (true≢false (sym c))
+unfolding spans
+operands-in rs head kind fs q (drawn-line d) a c = absurd (true≢false (sym c ∙ d .uncombined))
+operands-in rs head Quad fs q quad-line a c = absurd (true≢false (sym c))
+operands-in rs head And fs q and-line a c = map-tab (referenceWord rs) (λ j. operandOf (fieldAt fs (3 + j))) (length fs - 3)
+operands-in rs head Or fs q or-line a c = map-tab (referenceWord rs) (λ j. operandOf (fieldAt fs (3 + j))) (length fs - 3)
+operands-in rs head Not fs q not-line a c = rw (eqb-true (length fs - 3) 1 (a .shape))
+operands-in rs head Unknown fs q unknown-line a c = absurd (true≢false (sym c))
 
 -- ---- the step of a region
 
@@ -127,7 +114,7 @@ module _ (rs : List Region) (few : length rs ≤ 64) (r : ℕ) (below : r < leng
 
   kind-is : stepNumber (lineKind fs) ≡ kindNumber (shapeKind (regionShape head fs q))
   unfolding regionShape
-  kind-is = kind-in head (lineKind fs) fs q (line .known)
+  kind-is = kind-in head (lineKind fs) fs q (sort-of head fs (lineKind fs)) (line .known)
 
   -- the step, where the body is known
   whole : (f : ℕ → ℤ) → bodyWords rs (regionShape head fs q) ≡ tab f (bodyLength fs) → stepBy fs r p f ≡ stepWords rs r
@@ -136,14 +123,14 @@ module _ (rs : List Region) (few : length rs ≤ 64) (r : ℕ) (below : r < leng
 
   the-leaf : combines (lineKind fs) ≡ false → (l : Leaf) × (regionShape head fs q ≡ leaf l)
   unfolding regionShape
-  the-leaf c = leaf-in head (lineKind fs) fs q (line .known) c
+  the-leaf c = leaf-in head (lineKind fs) fs q (sort-of head fs (lineKind fs)) (line .known) c
 
   leaf-step : length head ≤ 8 → q < regionCount fs → combines (lineKind fs) ≡ false → stepBy fs r p (bodyWordOf head fs q) ≡ stepWords rs r
-  leaf-step eight h c = let l = the-leaf c in whole (bodyWordOf head fs q) (ap (bodyWords rs) (l .1) ∙ leaf-words head fs eight q h (l .0) (l .1) .1)
+  leaf-step eight h c = let l = the-leaf c in whole (bodyWordOf head fs q) (ap (bodyWords rs) (l .1) ∙ leaf-words head fs eight q h (l .0) (l .1))
 
   operands : combines (lineKind fs) ≡ true → bodyWords rs (regionShape head fs q) ≡ tab (reference rs fs) (bodyLength fs)
   unfolding regionShape bodyLength
-  operands c = operands-in rs head (lineKind fs) fs q line c
+  operands c = operands-in rs head (lineKind fs) fs q (sort-of head fs (lineKind fs)) line c
 
   operand-same : (j : ℕ) → reference rs fs j ≡ operandAt rs fs j
   unfolding operandAt operandNumberWord

@@ -5,29 +5,14 @@ ghost use Rattle.text.specs.Bounded.{tab};
 ghost use Rattle.text.specs.Lines.{fields};
 ghost use Rattle.text.specs.Output.{Writes};
 ghost use Rattle.gates.specs.Kinds.{lineKind};
-ghost use Rattle.gates.specs.Inner.Regions.{bodyLength, bodyWordOf};
-ghost use Rattle.writer.specs.Inner.Words.{numberWord, parentNumberWord, header, operandNumberWord, stepBy, combines as combinesOf};
+ghost use Rattle.gates.specs.Inner.Regions.{bodyLength, bodyWordOf, combines as combinesOf};
+ghost use Rattle.writer.specs.Inner.Words.{numberWord, parentNumberWord, header, operandNumberWord, stepBy};
+use gatefields::fields::combines;
 use gatefields::fields::kind_of;
 use gatelines::regions::body_length;
 use gatelines::regions::step_number;
 use gatelines::regions::word_of;
-use gates::LineKind;
 use text::output::lesser;
-
-fn combines(kind: LineKind) -> bool
-    ensures { λ r. ⌜ r ≡ combinesOf kind ⌝ }
-{
-    match kind {
-        LineKind::Rect => false,
-        LineKind::Poly => false,
-        LineKind::Ellip => false,
-        LineKind::Quad => false,
-        LineKind::And => true,
-        LineKind::Or => true,
-        LineKind::Not => true,
-        LineKind::Unknown => false,
-    }
-}
 
 // Whether the gate of a line combines operands.
 pub fn has_operands(line: &[u8]) -> bool

@@ -1,82 +1,52 @@
--- `end_in` meets its contract.
+-- `end_in`: by the number of the step's kind.
 use native.Mathlib.Omega.{arith}
+use borrow.Author.Tests.{not-true, not-false, eq-eqb, ne-eqb}
 use borrow.Author.Needs.{needs}
 use Rattle.linenames.proofs.end_in.Statement.{statement}
 use Rattle.linenames.proofs.end_in.Tie as tie
 
-enum-told : tie.Need-enum-told
-enum-told c = search needs
-
-enum-told-2 : tie.Need-enum-told-2
-enum-told-2 c = search needs
-
-enum-told-3 : tie.Need-enum-told-3
-enum-told-3 c = search needs
-
-enum-told-4 : tie.Need-enum-told-4
-enum-told-4 c = search needs
-
-enum-told-5 : tie.Need-enum-told-5
-enum-told-5 c = search needs
-
-at-least-3-requires : tie.Need-at-least-3-requires
-at-least-3-requires c κs = search needs
-
-enum-told-6 : tie.Need-enum-told-6
-enum-told-6 c = search needs
-
-at-least-3-requires-2 : tie.Need-at-least-3-requires-2
-at-least-3-requires-2 c κs = search needs
-
-enum-told-7 : tie.Need-enum-told-7
-enum-told-7 c = search needs
-
-enum-told-8 : tie.Need-enum-told-8
-enum-told-8 c = search needs
-
 returns : tie.Need-returns
-returns c = search needs
+returns c =
+    let combines = c .before .combines in
+    (rw (← combines .ensures, not-true (combines .result) (c .if1 .taken)), omega arith)
 
 returns-2 : tie.Need-returns-2
-returns-2 c = search needs
+returns-2 c =
+    let after-kind-number = c .before in
+    let step-kind = after-kind-number .before .step-kind in
+    let at-if1 = after-kind-number .before .before in
+    let combines = at-if1 .before .combines in
+    let number = after-kind-number .kind-number in (
+      rw (
+        ← combines .ensures,
+        not-false (combines .result) (at-if1 .if1 .left),
+        ← step-kind .ensures,
+        ← number .ensures,
+        eq-eqb (number .result) 6 (c .if2 .taken),
+      ),
+      omega arith,
+    )
 
 returns-3 : tie.Need-returns-3
-returns-3 c = search needs
-
-returns-4 : tie.Need-returns-4
-returns-4 c = search needs
-
-returns-5 : tie.Need-returns-5
-returns-5 c = (rw (c .before .enum-told5 .given .1) (c .at-least-3 .ensures), let e = c .at-least-3 .ensures in omega arith)
-
-returns-6 : tie.Need-returns-6
-returns-6 c = (rw (c .before .enum-told6 .given .1) (c .at-least-32 .ensures), let e = c .at-least-32 .ensures in omega arith)
-
-returns-7 : tie.Need-returns-7
-returns-7 c = search needs
-
-returns-8 : tie.Need-returns-8
-returns-8 c = search needs
+returns-3 c =
+    let at-if2 = c .before in
+    let after-kind-number = at-if2 .before in
+    let step-kind = after-kind-number .before .step-kind in
+    let at-if1 = after-kind-number .before .before in
+    let combines = at-if1 .before .combines in
+    let number = after-kind-number .kind-number in (
+      rw (
+        ← combines .ensures,
+        not-false (combines .result) (at-if1 .if1 .left),
+        ← step-kind .ensures,
+        ← number .ensures,
+        ne-eqb (number .result) 6 (at-if2 .if2 .left),
+      )
+          (c .at-least-3 .ensures),
+      omega (arith, c .at-least-3 .ensures),
+    )
 
 pub end-in-spec : {M : Type 1} → statement M
 end-in-spec =
     tie.close
-    (tie.spec
-    enum-told
-    enum-told-2
-    enum-told-3
-    enum-told-4
-    enum-told-5
-    at-least-3-requires
-    enum-told-6
-    at-least-3-requires-2
-    enum-told-7
-    enum-told-8
-    returns
-    returns-2
-    returns-3
-    returns-4
-    returns-5
-    returns-6
-    returns-7
-    returns-8)
+    (tie.spec (λ c κs. search needs) returns (λ c κs. search needs) (λ c κs. search needs) returns-2 (λ c κs. search needs) returns-3)

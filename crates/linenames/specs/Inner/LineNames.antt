@@ -8,9 +8,8 @@ use Rattle.plans.specs.Indices.{all, any, firstBad}
 use Rattle.text.specs.Bytes.{same}
 use Rattle.gates.specs.Kinds.{fieldAt, lineKind, isQuad, isNone, operandName}
 use Rattle.gates.specs.Quads.{quadrantCount, quadrantAt}
-use Rattle.gates.specs.Inner.Regions.{regionCount, regionName}
+use Rattle.gates.specs.Inner.Regions.{regionCount, regionName, stepNumber, combines}
 use Rattle.gates.specs.declared.LineKind.{LineKind}
-use Rattle.gates.specs.declared.LineKind.the-variants.{Rect, Poly, Ellip, Quad, And, Or, Not, Unknown}
 
 -- ---- regions
 
@@ -59,16 +58,9 @@ ownDifferent fs = all (newQuadrant fs) (quadCount fs)
 
 -- ---- references: field 2 is the parent; operands stand from field 3 on
 
--- the field after the last operand
+-- the field after the last operand: a `not`, whose step has number 6, has one, and the others have all that follow
 abbrev pub endIn : LineKind → ℕ → ℕ
-endIn Rect n = 3
-endIn Poly n = 3
-endIn Ellip n = 3
-endIn Quad n = 3
-endIn And n = max 3 n
-endIn Or n = max 3 n
-endIn Not n = 4
-endIn Unknown n = 3
+endIn kind n = cond (combines kind) (cond (eqb (stepNumber kind) 6) 4 (max 3 n)) 3
 
 unfoldable pub referenceEnd : List (List ℕ) → ℕ
 referenceEnd fs = endIn (lineKind fs) (length fs)

@@ -1,15 +1,13 @@
 -- The words of a step, from a gate line and the numbers of the regions that it refers to.
-use mathlib.Core.Bool.{Bool, true, false, cond}
+use mathlib.Core.Bool.{Bool, cond}
 use mathlib.Core.List.{List, [], _∷_, _++_}
 use Prim.Native.Nat.{ℕ, _+_, _*_, min}
 use lib.Dec.{ltb}
 use lib.IntN.{ℤ, pos, negsuc}
-use Rattle.gates.specs.declared.LineKind.{LineKind}
-use Rattle.gates.specs.declared.LineKind.the-variants.{Rect, Poly, Ellip, Quad, And, Or, Not, Unknown}
 use Rattle.text.specs.Bounded.{tab}
 use Rattle.gates.specs.Kinds.{fieldAt, lineKind, isNone, isComplement, operandName}
 use Rattle.gates.specs.Gate.{Region}
-use Rattle.gates.specs.Inner.Regions.{stepNumber, bodyLength, bodyWordOf}
+use Rattle.gates.specs.Inner.Regions.{stepNumber, combines, bodyLength, bodyWordOf}
 use Rattle.tables.specs.Table.{numberOf}
 
 -- ---- by numbers
@@ -35,17 +33,6 @@ abbrev pub stepBy : List (List ℕ) → ℕ → ℕ → (ℕ → ℤ) → List �
 stepBy fs region parent word = header (stepNumber (lineKind fs)) region parent (bodyLength fs) ++ tab word (bodyLength fs)
 
 -- ---- by the regions of a table; a number of more than 64 is held at 64
-
--- whether a body is that of operands
-abbrev pub combines : LineKind → Bool
-combines Rect = false
-combines Poly = false
-combines Ellip = false
-combines Quad = false
-combines And = true
-combines Or = true
-combines Not = true
-combines Unknown = false
 
 -- word j of the body of a combination
 unfoldable pub operandAt : List Region → List (List ℕ) → ℕ → ℤ
