@@ -18,7 +18,10 @@ DOCUMENT = 'docs/DEMANDS.md'
 DEMANDS = 'integers plans counter text gates tables compiler counttable'.split()
 GROUPS = (('Demands 1 to 3', DEMANDS), ("The programs' text", None), ('The rows of the C interface', 'gatec gatejudge gatecompile'.split()))
 # The files that a request brought; those that were there before and that it changed stay where they were.
-REQUESTS = {'a': 'counter/specs/Outlines counter/specs/Positions gates/specs/Outlines tables/specs/Judging tables/specs/Outlines'.split()}
+REQUESTS = {
+    'a': 'counter/specs/Outlines counter/specs/Positions gates/specs/Outlines tables/specs/Judging tables/specs/Outlines'.split(),
+    'b': 'text/specs/Decimals counter/specs/DecimalEllipse'.split(),
+}
 
 
 def crates():
@@ -31,7 +34,7 @@ def title(path):
     """The comment that a file opens with, its first sentence or clause."""
     with open(path, encoding='utf-8') as file:
         first = file.readline()
-    return re.split(r'(?<=[.:]) | \(01:', first.lstrip('- ').strip())[0].rstrip('.:') if first.startswith('--') else ''
+    return re.split(r'(?<=[.:]) | \(0[12]:', first.lstrip('- ').strip())[0].rstrip('.:') if first.startswith('--') else ''
 
 
 def lines(path):
