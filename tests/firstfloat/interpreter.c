@@ -1,0 +1,238 @@
+/*
+ * The functions of gatecount.h written plainly in C: what the proved counter is compared with.
+ * A plan is checked once; after that its words are read without a test, as C programmers would.
+ */
+#include "gatecount.h"
+
+#include <stdbool.h>
+#include <string.h>
+
+enum { MIN_VALUE = -65536, MAX_VALUE = 65535, MAX_ENTRY = 16777216, MAX_D2 = 4096, MAX_STEPS = GATE_REGIONS };
+
+/* Where a step's header and an ellipse's body have their words. */
+enum { KIND, REGION, PARENT, LENGTH, HEADER };
+enum { MEAN_X = 2, MEAN_Y, C11, C12, C22, D2, ELLIPSE_LENGTH };
+
+static bool within(int32_t low, int32_t x, int32_t high) { return low <= x && x <= high; }
+
+static bool has(uint64_t bits, int32_t region) { return bits >> region & 1; }
+
+/* ---- Members ---- */
+
+static bool in_box(const int32_t *body, int length, const int32_t *event) {
+    for (int i = 0; i < length; i += 3) {
+        int32_t value = event[body[i]];
+        if (value < body[i + 1] || value >= body[i + 2]) return false;
+    }
+    return true;
+}
+
+static bool between(int64_t a, int64_t b, int64_t x) { return (a <= x && x <= b) || (b <= x && x <= a); }
+
+static bool in_polygon(const int32_t *body, int length, const int32_t *event) {
+    int64_t x = event[body[0]], y = event[body[1]], sum = 0;
+    int64_t x0 = body[length - 2], y0 = body[length - 1];
+    for (int i = 2; i < length; i += 2) {
+        int64_t x1 = body[i], y1 = body[i + 1];
+        int64_t s = (x1 - x0) * (y - y0) - (x - x0) * (y1 - y0);
+        if (s == 0 && between(x0, x1, x) && between(y0, y1, y)) return true;
+        if (y0 <= y && y < y1 && s > 0) sum++;
+        else if (y1 <= y && y < y0 && s < 0) sum--;
+        x0 = x1;
+        y0 = y1;
+    }
+    return sum != 0;
+}
+
+static bool in_ellipse(const int32_t *body, const int32_t *event) {
+    int64_t dx = (int64_t)event[body[0]] - body[MEAN_X], dy = (int64_t)event[body[1]] - body[MEAN_Y];
+    int64_t c11 = body[C11], c12 = body[C12], c22 = body[C22];
+    return c22 * dx * dx - 2 * c12 * dx * dy + c11 * dy * dy <= body[D2] * (c11 * c22 - c12 * c12);
+}
+
+static bool operand(uint64_t bits, int32_t word) { return has(bits, word / 2) != (word % 2 == 1); }
+
+static bool in_all(const int32_t *body, int length, uint64_t bits) {
+    for (int i = 0; i < length; i++) {
+        if (!operand(bits, body[i])) return false;
+    }
+    return true;
+}
+
+static bool in_any(const int32_t *body, int length, uint64_t bits) {
+    for (int i = 0; i < length; i++) {
+        if (operand(bits, body[i])) return true;
+    }
+    return false;
+}
+
+static bool in_shape(int32_t kind, const int32_t *body, int length, const int32_t *event, uint64_t bits) {
+    switch (kind) {
+    case GATE_BOX: return in_box(body, length, event);
+    case GATE_POLYGON: return in_polygon(body, length, event);
+    case GATE_ELLIPSE: return in_ellipse(body, event);
+    case GATE_AND: return in_all(body, length, bits);
+    case GATE_OR: return in_any(body, length, bits);
+    default: return !operand(bits, body[0]);
+    }
+}
+
+/* The bits of an event that is taken. */
+static uint64_t bits_of(const int32_t *plan, const int32_t *event) {
+    uint64_t bits = 0;
+    const int32_t *step = plan + 2;
+    for (int s = 0; s < plan[1]; s++) {
+        const int32_t *body = step + HEADER;
+        int length = step[LENGTH];
+        bool in_parent = step[PARENT] == GATE_NO_PARENT || has(bits, step[PARENT]);
+        if (in_parent && in_shape(step[KIND], body, length, event, bits)) bits |= (uint64_t)1 << step[REGION];
+        step = body + length;
+    }
+    return bits;
+}
+
+/* The index of the first value that spoils the event, n where there is none. */
+static int first_spoilt(const int32_t *event, int n) {
+    int i = 0;
+    while (i < n && within(MIN_VALUE, event[i], MAX_VALUE)) i++;
+    return i;
+}
+
+/* ---- Form ---- */
+
+#define NO_PLACE SIZE_MAX
+
+static bool length_good(int32_t kind, int32_t length) {
+    switch (kind) {
+    case GATE_BOX: return within(3, length, 24) && length % 3 == 0;
+    case GATE_POLYGON: return within(8, length, 514) && length % 2 == 0;
+    case GATE_ELLIPSE: return length == ELLIPSE_LENGTH;
+    case GATE_NOT: return length == 1;
+    default: return within(2, length, 63);
+    }
+}
+
+/* A region that an earlier step has set. */
+static bool earlier(uint64_t set, int32_t region) { return within(0, region, MAX_STEPS - 1) && has(set, region); }
+
+/* A dimension below n that differs from those at body[0], body[stride], .. before body[i]. */
+static bool dimension_good(const int32_t *body, int i, int stride, int n) {
+    if (!within(0, body[i], n - 1)) return false;
+    for (int j = 0; j < i; j += stride) {
+        if (body[j] == body[i]) return false;
+    }
+    return true;
+}
+
+static bool box_word_good(const int32_t *body, int i, int n) {
+    switch (i % 3) {
+    case 0: return dimension_good(body, i, 3, n);
+    case 1: return within(MIN_VALUE, body[i], MAX_VALUE);
+    default: return within(MIN_VALUE + 1, body[i], MAX_VALUE + 1) && body[i - 1] < body[i];
+    }
+}
+
+static bool ellipse_word_good(const int32_t *body, int i, int n) {
+    if (i < MEAN_X) return dimension_good(body, i, 1, n);
+    if (i < C11) return within(MIN_VALUE, body[i], MAX_VALUE);
+    if (i < D2) return within(-MAX_ENTRY, body[i], MAX_ENTRY);
+    return within(1, body[i], MAX_D2);
+}
+
+/* Word i of a body, by itself and by the words before it. */
+static bool body_word_good(int32_t kind, const int32_t *body, int i, int n, uint64_t set) {
+    switch (kind) {
+    case GATE_BOX: return box_word_good(body, i, n);
+    case GATE_POLYGON: return i < 2 ? dimension_good(body, i, 1, n) : within(MIN_VALUE, body[i], MAX_VALUE);
+    case GATE_ELLIPSE: return ellipse_word_good(body, i, n);
+    default: return body[i] >= 0 && earlier(set, body[i] / 2);
+    }
+}
+
+static bool matrix_good(const int32_t *body) {
+    int64_t c11 = body[C11], c12 = body[C12], c22 = body[C22];
+    return c11 > 0 && c11 * c22 > c12 * c12;
+}
+
+/* The place of the lowest bad word, NO_PLACE in a plan of good form. */
+static size_t bad_word(const int32_t *plan, size_t plan_len) {
+    if (plan_len < 1 || !within(1, plan[0], 8)) return 0;
+    if (plan_len < 2 || !within(0, plan[1], MAX_STEPS)) return 1;
+    int n = plan[0], steps = plan[1];
+    uint64_t set = 0;
+    size_t at = 2;
+    for (int s = 0; s < steps; s++) {
+        const int32_t *step = plan + at, *body = step + HEADER;
+        size_t left = plan_len - at;
+        if (left <= KIND || !within(GATE_BOX, step[KIND], GATE_NOT)) return at + KIND;
+        if (left <= REGION || !within(0, step[REGION], steps - 1) || has(set, step[REGION])) return at + REGION;
+        if (left <= PARENT || !(step[PARENT] == GATE_NO_PARENT || earlier(set, step[PARENT]))) return at + PARENT;
+        if (left <= LENGTH || !length_good(step[KIND], step[LENGTH])) return at + LENGTH;
+        int length = step[LENGTH];
+        for (int i = 0; i < length; i++) {
+            if (left <= (size_t)(HEADER + i)) return plan_len;
+            if (!body_word_good(step[KIND], body, i, n, set)) return at + HEADER + i;
+            if (step[KIND] == GATE_ELLIPSE && i == C22 && !matrix_good(body)) return at + HEADER + C11;
+        }
+        set |= (uint64_t)1 << step[REGION];
+        at += HEADER + length;
+    }
+    return at < plan_len ? at : NO_PLACE;
+}
+
+/* ---- Answers ---- */
+
+static bool refuse(uint64_t *out, enum gate_refusal refusal, size_t place) {
+    out[GATE_OUT_REFUSAL] = refusal;
+    out[GATE_OUT_PLACE] = place;
+    return false;
+}
+
+/* Whether the plan passes; refusal and place are written where it doesn't. */
+static bool passes(const int32_t *plan, size_t plan_len, uint64_t *out) {
+    if (plan_len > GATE_MAX_WORDS) return refuse(out, GATE_LONG_PLAN, 0);
+    size_t place = bad_word(plan, plan_len);
+    return place == NO_PLACE || refuse(out, GATE_MALFORMED_PLAN, place);
+}
+
+void gate_check(const int32_t *plan, size_t plan_len, uint64_t out[2]) {
+    memset(out, 0, GATE_CHECK_OUT * sizeof out[0]);
+    passes(plan, plan_len, out);
+}
+
+void gate_judge(const int32_t *plan, size_t plan_len, const int32_t *event, size_t event_len, uint64_t out[3]) {
+    memset(out, 0, GATE_JUDGE_OUT * sizeof out[0]);
+    if (!passes(plan, plan_len, out)) return;
+    int n = plan[0];
+    if (event_len != (size_t)n) {
+        refuse(out, GATE_RAGGED, event_len);
+        return;
+    }
+    int i = first_spoilt(event, n);
+    if (i < n) refuse(out, GATE_SPOILT, i);
+    else out[GATE_OUT_BITS] = bits_of(plan, event);
+}
+
+void gate_count(const int32_t *plan, size_t plan_len, const int32_t *events, size_t events_len, uint64_t out[68]) {
+    memset(out, 0, GATE_COUNT_OUT * sizeof out[0]);
+    if (!passes(plan, plan_len, out)) return;
+    int n = plan[0], steps = plan[1];
+    if (events_len % n != 0) {
+        refuse(out, GATE_RAGGED, events_len);
+        return;
+    }
+    uint64_t taken = 0, spoilt = 0, counts[GATE_REGIONS] = {0};
+    for (size_t i = 0; i < events_len; i += n) {
+        const int32_t *event = events + i;
+        if (first_spoilt(event, n) < n) {
+            spoilt++;
+        } else {
+            uint64_t bits = bits_of(plan, event);
+            taken++;
+            for (int r = 0; r < steps; r++) counts[r] += bits >> r & 1;
+        }
+    }
+    out[GATE_OUT_TAKEN] = taken;
+    out[GATE_OUT_SPOILT_COUNT] = spoilt;
+    memcpy(out + GATE_OUT_COUNTS, counts, sizeof counts);
+}
