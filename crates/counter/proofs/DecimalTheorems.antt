@@ -14,7 +14,7 @@ use Rattle.counter.proofs.PositionLaws.{order-sides}
 
 -- ---- exact decimal values, as fractions
 
--- a whole number over a number above 0
+-- a whole number over a number above 0: here 1, 1000, and their products
 pub record Fraction : Type 0 where
   pub top : ℤ
   pub bottom : ℤ

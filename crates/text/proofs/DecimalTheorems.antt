@@ -59,14 +59,28 @@ module _ (s d : List ℕ) (h : hasPoint s ≡ false) where
   unfolding afterPoint
   point-after = rw (point-at s d (none-end s h)) (drop-append-add s (46 ∷ d) 1)
 
--- and every text that has a point is made of them
-pub point-parts : (s : List ℕ) → hasPoint s ≡ true → beforePoint s ++ (46 ∷ afterPoint s) ≡ s
-unfolding hasPoint beforePoint afterPoint
-point-parts s h =
-    let l = ltb-true (pointAt s) (length s) h in
-    let e = eqb-true (getD s (pointAt s) 0) 46 (before-found (λ c. eqb c 46) 0 s l) in
-    let r : drop (pointAt s) s ≡ 46 ∷ drop (pointAt s + 1) s = rest-cons s (pointAt s) 0 l ∙ ap (λ (x : ℕ). x ∷ drop (pointAt s + 1) s) e in
-    ap (λ (k : List ℕ). take (pointAt s) s ++ k) (sym r) ∙ take-append-drop (pointAt s) s
+-- and every text that has a point is made of such parts
+take-point : (s : List ℕ) → length (take (pointAt s) s) ≤ pointAt (take (pointAt s) s)
+take-point [] = omega arith
+take-point (x ∷ s) = go (passed-or-failed (eqb x 46)) (take-point s)
+  where
+    go : (eqb x 46 ≡ true) ⊎ (eqb x 46 ≡ false) → length (take (pointAt s) s) ≤ pointAt (take (pointAt s) s)
+        → length (take (pointAt (x ∷ s)) (x ∷ s)) ≤ pointAt (take (pointAt (x ∷ s)) (x ∷ s))
+    go (inl t) r = rw t (omega arith)
+    go (inr t) r = rw (t, t) (omega arith)
+
+module _ (s : List ℕ) where
+  pub before-none : hasPoint (beforePoint s) ≡ false
+  unfolding hasPoint beforePoint
+  before-none = le-ltb (pointAt (take (pointAt s) s)) (length (take (pointAt s) s)) (take-point s)
+
+  pub point-parts : hasPoint s ≡ true → beforePoint s ++ (46 ∷ afterPoint s) ≡ s
+  unfolding hasPoint beforePoint afterPoint
+  point-parts h =
+      let l = ltb-true (pointAt s) (length s) h in
+      let e = eqb-true (getD s (pointAt s) 0) 46 (before-found (λ c. eqb c 46) 0 s l) in
+      let r : drop (pointAt s) s ≡ 46 ∷ drop (pointAt s + 1) s = rest-cons s (pointAt s) 0 l ∙ ap (λ (x : ℕ). x ∷ drop (pointAt s + 1) s) e in
+      ap (λ (k : List ℕ). take (pointAt s) s ++ k) (sym r) ∙ take-append-drop (pointAt s) s
 
 -- ── The sign ──
 

@@ -32,7 +32,7 @@ afterPoint s = drop (pointAt s + 1) s
 unfoldable pub unsignedThousandths : List ℕ → ℕ
 unsignedThousandths u = 1000 * digitsValue 0 (beforePoint u) + digitsValue 0 (take 3 (afterPoint u ++ bytes "000"))
 
--- the value of a number, in thousandths, of any length
+-- the value of a number of any length, in thousandths; of a text that is no number (`isDecimal`) it says nothing
 unfoldable pub thousandths : List ℕ → ℤ
 thousandths s = signed (isNegative s) (unsignedThousandths (unsigned s))
 
@@ -46,7 +46,7 @@ isWhole s = same s (bytes "0") || isPositive s
 unfoldable pub isOneToThree : List ℕ → Bool
 isOneToThree s = leb 1 (length s) && (leb (length s) 3 && every isDigit s)
 
--- a `-`, and the value zero
+-- of one to three decimals: a `-`, and the value zero
 unfoldable pub isMinusZero : List ℕ → Bool
 isMinusZero s = isNegative s && eqb (unsignedThousandths (unsigned s)) 0
 
