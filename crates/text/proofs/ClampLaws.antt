@@ -55,3 +55,7 @@ module _ (b : ℕ) (lo hi v : ℤ) (g : natAbs lo < b) (h : natAbs hi < b) where
   pub clampTo-within : inRange lo hi v ≡ true → clampTo b v ≡ v
   unfolding inRange
   clampTo-within e = clampTo-is b v (bounded b lo hi v g h (and-left (leZ lo v) (leZ v hi) e) (and-right (leZ lo v) (leZ v hi) e))
+
+-- kept twice, the second time no closer
+pub min-min : (n a b : ℕ) → a ≤ b → min (min n a) b ≡ min n a
+min-min n a b h = omega arith

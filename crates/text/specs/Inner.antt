@@ -1,6 +1,5 @@
 -- Definitions that only inner contracts and proofs cite.
 pub mod Kept
-pub mod KeptDecimals
 pub mod Places
 pub mod Counts
 pub mod Writing
