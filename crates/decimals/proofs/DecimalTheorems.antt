@@ -227,7 +227,7 @@ negative-below s d n = rw n (below (unsignedThousandths (unsigned s)) (go (passe
     go : (hasPoint s ≡ true) ⊎ (hasPoint s ≡ false) → 0 < unsignedThousandths (unsigned s)
     go (inl t) =
         let whole = isWhole (beforePoint (unsigned s)) in
-        let decimals = isOneToThree (afterPoint s) in
+        let decimals = isOneToThree (afterPoint (unsigned s)) in
         let e : (whole && (decimals && not (isMinusZero s))) ≡ true = rw t at d in
         let z = not-true (isMinusZero s) (and-right decimals (not (isMinusZero s)) (and-right whole (decimals && not (isMinusZero s)) e)) in
         some (unsignedThousandths (unsigned s)) (rw n at z)
@@ -301,7 +301,7 @@ module _ (s d : List ℕ) (h : hasPoint s ≡ false) where
         point-sign s d h,
         unsigned-first s (46 ∷ d) (point-unsigned d),
         point-before (unsigned s) d (unsigned-none s h),
-        point-after s d h,
+        point-after (unsigned s) d (unsigned-none s h),
       )
 
   -- s, a point, and one to three digits d: a number where s is one of 01's; or where s is `-0` and d is not zero

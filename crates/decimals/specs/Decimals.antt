@@ -52,4 +52,4 @@ isMinusZero s = isNegative s && eqb (unsignedThousandths (unsigned s)) 0
 
 -- with a point: an optional `-`, a whole number, the point, one to three digits, but not minus zero; without one: 01's number
 unfoldable pub isDecimal : List ℕ → Bool
-isDecimal s = cond (hasPoint s) (isWhole (beforePoint (unsigned s)) && (isOneToThree (afterPoint s) && not (isMinusZero s))) (isNumber s)
+isDecimal s = cond (hasPoint s) (isWhole (beforePoint (unsigned s)) && (isOneToThree (afterPoint (unsigned s)) && not (isMinusZero s))) (isNumber s)

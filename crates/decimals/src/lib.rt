@@ -104,7 +104,8 @@ pub fn is_decimal(s: &[u8]) -> bool
     ensures { λ r. ⌜ r ≡ isDecimal (now (s .entry)) ⌝ }
 {
     if has_point(s) {
-        return whole(before_point(unsigned(s))) & (one_to_three(after_point(s)) & !minus_zero(s));
+        let u = unsigned(s);
+        return whole(before_point(u)) & (one_to_three(after_point(u)) & !minus_zero(s));
     }
     is_number(s)
 }
