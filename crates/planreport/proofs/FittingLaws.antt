@@ -15,7 +15,7 @@ use Rattle.plans.specs.Words.{word, number, part}
 use Rattle.integers.specs.Range.{inRange}
 use Rattle.plans.specs.Refusals.{passed}
 use Rattle.plans.specs.Bits.{withBit}
-use Rattle.plans.specs.Form.{earlier, free, parentGood, kindAt, regionAt, lengthAt, bodyAt, nextAt, headWord, stepsWord, width, stepCount, wordGood, checkOf}
+use Rattle.plans.specs.Form.{earlier, free, parentGood, kindAt, regionAt, lengthAt, bodyAt, nextAt, headWordFor, headWord, stepsWordFor, stepsWord, width, stepCount, wordGoodFor, checkOf}
 use Rattle.plans.proofs.KindLaws.{known-number, spans-both, length-range, range-fits, number-fits, choose, earlier-low, body-fits}
 use Rattle.plans.proofs.PlanTheorems.{passed→form}
 use Rattle.runreport.specs.PlanReading.{fitsWord}
@@ -29,7 +29,7 @@ either false y f g e = g e
 
 module _ (p : List ℤ) (k set : ℕ) (few : k ≤ 64) where
   head-fits : (at i : ℕ) → at ≤ i → i < at + 4 → headWord p k set at (i - at) ≡ true → fitsWord (word p i) ≡ true
-  unfolding headWord kindAt regionAt lengthAt free parentGood fitsWord
+  unfolding headWordFor kindAt regionAt lengthAt free parentGood fitsWord
   head-fits at i l h =
       choose (eqb (i - at) 0) _ _
       (λ c e. let q : at ≡ i = omega (arith, eqb-true (i - at) 0 c) in number-fits (word p i) (known-number (number (word p i)) (rw q at e)))
@@ -58,7 +58,7 @@ body-word p at i l h =
 -- ---- the whole plan
 
 steps-fit : (p : List ℤ) (n k : ℕ) → n ≤ 8 → k ≤ 64 → (left set at i : ℕ) → at ≤ i → stepsWord left p n k set at i ≡ true → fitsWord (word p i) ≡ true
-unfolding stepsWord fitsWord
+unfolding stepsWordFor fitsWord
 steps-fit p n k narrow few zero set at i l e = absurd (true≢false (sym e))
 steps-fit p n k narrow few (suc left) set at i l e =
     choose (ltb i (at + 4)) _ _
@@ -71,11 +71,11 @@ steps-fit p n k narrow few (suc left) set at i l e =
 
 module _ (p : List ℤ) (ok : checkOf p ≡ passed) where
   width-most : width p ≤ 8
-  unfolding wordGood
+  unfolding wordGoodFor
   width-most = spans-both 1 8 (width p) (passed→form p ok .1 .words 0 (omega (arith, head-there p ok))) .1
 
   word-fits : (i : ℕ) → i < length p → fitsWord (word p i) ≡ true
-  unfolding wordGood width stepCount fitsWord
+  unfolding wordGoodFor width stepCount fitsWord
   word-fits i h =
       choose (eqb i 0) _ _
       (λ c e. let q : i ≡ 0 = eqb-true i 0 c in rw q (number-fits (word p 0) (omega (arith, spans-both 1 8 (number (word p 0)) e .1))))

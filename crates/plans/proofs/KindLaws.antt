@@ -5,7 +5,7 @@ use mathlib.Core.List.{List}
 use Prim.Native.Nat.{ℕ, _*_, _/_, _%_, _<_, _≤_}
 use native.Mathlib.Omega.{arith}
 use lib.Dec.{eqb, ltb, leb}
-use lib.IntN.{ℤ, pos, negsuc, natAbs}
+use lib.IntN.{ℤ, pos, negsuc, negℤ, natAbs}
 use lib.Signed.{leZ}
 use borrow.Author.Tests.{le-leb, leb-true, ltb-true, eqb-true}
 use Rattle.integers.specs.Range.{inRange}
@@ -13,7 +13,7 @@ use Rattle.plans.specs.Words.{word, number, onScale}
 use Rattle.plans.specs.Form.{earlier, dimensionGood, boxWord, polygonWord, entry, matrixWord, ellipseWord, operandWord, bodyWord}
 use Rattle.plans.specs.Kinds.{kindOf, kindNumber, known, spans, spansBy, lengthGood}
 use Rattle.plans.specs.declared.Kind.{Kind}
-use Rattle.plans.specs.declared.Kind.the-variants.{Box, Polygon, Ellipse, And, Or, Not, Unknown}
+use Rattle.plans.specs.declared.Kind.the-variants.{Box, Polygon, Ellipse, And, Or, Not, DecimalEllipse, Unknown}
 use Rattle.plans.proofs.IndexLaws.{clash, and-both}
 
 -- ---- a kind's number
@@ -27,6 +27,7 @@ kind-back Ellipse = refl
 kind-back And = refl
 kind-back Or = refl
 kind-back Not = refl
+kind-back DecimalEllipse = refl
 kind-back Unknown = refl
 
 -- the number that is asked for, or one of those behind it
@@ -47,7 +48,8 @@ known-number k =
     (or-later k 4 And _ (omega arith)
     (or-later k 5 Or _ (omega arith)
     (or-later k 6 Not _ (omega arith)
-    (λ w. absurd (clash (sym w))))))))
+    (or-later k 7 DecimalEllipse _ (omega arith)
+    (λ w. absurd (clash (sym w)))))))))
 
 -- ---- the length of a body
 
@@ -70,6 +72,7 @@ length-range Ellipse m e = let h = eqb-true m 8 e in (omega arith, omega arith)
 length-range And m e = let h = spans-both 2 63 m e in (omega arith, omega arith)
 length-range Or m e = let h = spans-both 2 63 m e in (omega arith, omega arith)
 length-range Not m e = let h = eqb-true m 1 e in (omega arith, omega arith)
+length-range DecimalEllipse m e = let h = eqb-true m 8 e in (omega arith, omega arith)
 length-range Unknown m e = absurd (clash (sym e))
 
 -- a kind that allows some length is known
@@ -80,6 +83,7 @@ length-known Ellipse m e = refl
 length-known And m e = refl
 length-known Or m e = refl
 length-known Not m e = refl
+length-known DecimalEllipse m e = refl
 length-known Unknown m e = e
 
 -- ---- the words of a body
@@ -104,9 +108,6 @@ scale-fits : (w : ℤ) → onScale w ≡ true → Fits w
 unfolding onScale
 scale-fits w e = range-fits (negsuc 65535) (pos 65535) w (omega arith) (omega arith) e
 
-entry-fits : (w : ℤ) → entry w ≡ true → Fits w
-unfolding entry
-entry-fits w e = range-fits (negsuc 16777215) (pos 16777216) w (omega arith) (omega arith) e
 
 -- either test of a choice
 pub choose : (b x y : Bool) {P : Type 0} → (b ≡ true → x ≡ true → P) → (b ≡ false → y ≡ true → P) → cond b x y ≡ true → P
@@ -127,9 +128,20 @@ module _ (n k set : ℕ) (narrow : n ≤ 8) (few : k ≤ 64) (body : List ℤ) w
   unfolding operandWord
   operand-fits i e = number-fits (word body i) (omega (arith, earlier-low k set (number (word body i) / 2) few e))
 
+  -- whatever the ranges of an ellipse's entries and of its D²
+  ellipse-fits : (most far : ℤ) → natAbs (negℤ most) ≤ 2147483647 → natAbs most ≤ 2147483647 → natAbs far ≤ 2147483647
+      → (i : ℕ) → ellipseWord most far n body i ≡ true → Fits (word body i)
+  unfolding ellipseWord matrixWord entry
+  ellipse-fits most far lo hi to i =
+      choose (ltb i 2) _ _ (λ _. dimension-fits 1 i i (omega arith))
+      (λ _. choose (ltb i 4) _ _ (λ _. scale-fits (word body i))
+      (λ _. choose (eqb i 4) _ _ (λ c e. let q : i ≡ 4 = eqb-true i 4 c in rw q (range-fits (negℤ most) most (word body 4) lo hi (and-both (entry most (word body 4)) _ e .0)))
+      (λ _. choose (ltb i 7) _ _ (λ _. range-fits (negℤ most) most (word body i) lo hi)
+      (λ _. range-fits (pos 1) far (word body i) (omega arith) to))))
+
   -- a good word fits 32 bits
   pub body-fits : (kind : Kind) (i : ℕ) → bodyWord kind n k set body i ≡ true → Fits (word body i)
-  unfolding boxWord polygonWord ellipseWord matrixWord
+  unfolding boxWord polygonWord
   body-fits Box i =
       choose (eqb (i % 3) 0) _ _
       (λ c. dimension-fits 3 (i / 3) i (omega (arith, eqb-true (i % 3) 0 c)))
@@ -138,13 +150,9 @@ module _ (n k set : ℕ) (narrow : n ≤ 8) (few : k ≤ 64) (body : List ℤ) w
       (λ _ e. range-fits (negsuc 65534) (pos 65536) (word body i) (omega arith) (omega arith)
       (and-both (inRange (negsuc 65534) (pos 65536) (word body i)) _ e .0)))
   body-fits Polygon i = choose (ltb i 2) _ _ (λ _. dimension-fits 1 i i (omega arith)) (λ _. scale-fits (word body i))
-  body-fits Ellipse i =
-      choose (ltb i 2) _ _ (λ _. dimension-fits 1 i i (omega arith))
-      (λ _. choose (ltb i 4) _ _ (λ _. scale-fits (word body i))
-      (λ _. choose (eqb i 4) _ _ (λ c e. let q : i ≡ 4 = eqb-true i 4 c in rw q (entry-fits (word body 4) (and-both (entry (word body 4)) _ e .0)))
-      (λ _. choose (ltb i 7) _ _ (λ _. entry-fits (word body i))
-      (λ _. range-fits (pos 1) (pos 4096) (word body i) (omega arith) (omega arith)))))
+  body-fits Ellipse i = ellipse-fits (pos 16777216) (pos 4096) (omega arith) (omega arith) (omega arith) i
   body-fits And i = operand-fits i
   body-fits Or i = operand-fits i
   body-fits Not i = operand-fits i
+  body-fits DecimalEllipse i = ellipse-fits (pos 2000000000) (pos 4096000) (omega arith) (omega arith) (omega arith) i
   body-fits Unknown i = λ e. absurd (clash (sym e))

@@ -3,7 +3,7 @@ use mathlib.Core.Bool.{Bool, false, _&&_, cond}
 use Prim.Native.Nat.{ℕ, _%_}
 use lib.Dec.{ltb, leb, eqb}
 use Rattle.plans.specs.declared.Kind.{Kind}
-use Rattle.plans.specs.declared.Kind.the-variants.{Box, Polygon, Ellipse, And, Or, Not, Unknown}
+use Rattle.plans.specs.declared.Kind.the-variants.{Box, Polygon, Ellipse, And, Or, Not, DecimalEllipse, Unknown}
 
 -- the kind with a number
 unfoldable pub kindOf : ℕ → Kind
@@ -14,7 +14,8 @@ kindOf k =
     (cond (eqb k 4) And
     (cond (eqb k 5) Or
     (cond (eqb k 6) Not
-    Unknown)))))
+    (cond (eqb k 7) DecimalEllipse
+    Unknown))))))
 
 -- the number of a kind; 0 for none
 abbrev pub kindNumber : Kind → ℕ
@@ -24,6 +25,7 @@ kindNumber Ellipse = 3
 kindNumber And = 4
 kindNumber Or = 5
 kindNumber Not = 6
+kindNumber DecimalEllipse = 7
 kindNumber Unknown = 0
 
 abbrev pub known : Kind → Bool
@@ -45,4 +47,5 @@ lengthGood Ellipse m = eqb m 8
 lengthGood And m = spans 2 63 m
 lengthGood Or m = spans 2 63 m
 lengthGood Not m = eqb m 1
+lengthGood DecimalEllipse m = eqb m 8
 lengthGood Unknown m = false

@@ -14,7 +14,7 @@ use Rattle.text.specs.Output.{over, Writes}
 use Rattle.text.proofs.OutputLaws.{over-fits}
 use Rattle.plans.specs.Words.{word, number}
 use Rattle.plans.specs.Refusals.{Verdict, passed, refused, refusal, verdict}
-use Rattle.plans.specs.Form.{width, stepCount, nextAt, stepsEnd, planEnd, wordGood, lowestBad, formOf, checkOf}
+use Rattle.plans.specs.Form.{width, stepCount, nextAt, stepsEnd, planEnd, wordGoodFor, lowestBad, formFor, formOf, checkFor, checkOf}
 use Rattle.plans.specs.declared.Refusal.{Refusal}
 use Rattle.plans.specs.declared.Refusal.the-variants.{LongPlan, Malformed, Ragged as RaggedList, Spoilt}
 use Rattle.plans.specs.declared.Checked.{Checked}
@@ -92,7 +92,7 @@ module _ (p : List ℤ) where
 
   -- number 0 is no refusal
   pub accepted-passed : checkOf p .number ≡ 0 → checkOf p ≡ passed
-  unfolding checkOf formOf
+  unfolding checkFor formFor
   accepted-passed = outer (ltb 4096 (length p))
     where
       inner : (b : Bool) → (cond b passed (refused 22 (length p))) .number ≡ 0 → cond b passed (refused 22 (length p)) ≡ passed
@@ -114,7 +114,7 @@ module _ (p : List ℤ) where
     head-there = omega (arith, passed→form p ok .1 .ends, steps-from (stepCount p) 2)
 
     pub count-most : stepCount p ≤ 64
-    unfolding wordGood
+    unfolding wordGoodFor
     count-most = few-steps (passed→form p ok .1 .words 1 (omega (arith, head-there)))
 
 -- ---- the events

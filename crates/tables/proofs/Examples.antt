@@ -128,8 +128,8 @@ unfolding tableCases tableOutlineCases sameWords answer inGate onGate example ex
     Steps.isWritten Steps.ready Steps.waiting Steps.nextRegion Steps.orderFrom Steps.order Steps.stepWords Steps.planWords Table.nthGate Table.nthRegion
     Table.apart Table.newName Table.different Table.otherName Table.numberOf Table.upTo Words.number Words.part Form.kindOf Form.earlier Form.free
     Form.parentGood Form.differs Form.dimensionGood Form.boxWord Form.polygonWord Form.entry Form.matrixWord Form.ellipseWord Form.operandWord Form.kindAt
-    Form.regionAt Form.lengthAt Form.bodyAt Form.nextAt Form.headWord Form.stepsWord Form.stepsEnd Form.width Form.stepCount Form.wordGood Form.planEnd
-    Form.lowestBad Form.formOf Form.checkOf Placing.valueIn Placing.tripleIn Placing.boxIn Placing.polygonIn Placing.ellipseIn Placing.operandIn
+    Form.regionAt Form.lengthAt Form.bodyAt Form.nextAt Form.headWordFor Form.stepsWordFor Form.stepsEnd Form.width Form.stepCount Form.wordGoodFor Form.planEnd
+    Form.lowestBadFor Form.formFor Form.checkFor Placing.valueIn Placing.tripleIn Placing.boxIn Placing.polygonIn Placing.ellipseIn Placing.operandIn
     Placing.parentIn Placing.stepIn Placing.settled Placing.bitsOf Judging.firstSpoilt Judging.members Counting.eventAt Counting.takenAt Counting.spoiltAt
     Counting.memberAt Counting.listFrom Counting.inRegion Counting.tallyOf Counting.countPassed Counting.countOf TableCount.countTableOf
     Meaning.inTriple Meaning.inRect Meaning.inQuadrant Positions.ellipsePosition LineOutlines.onEllip TableOutlines.outlineMember

@@ -13,7 +13,7 @@ use Rattle.plans.specs.Words.{word, number}
 use Rattle.integers.specs.Range.{inRange}
 use Rattle.plans.specs.Bits.{hasBit, withBit}
 use Rattle.plans.specs.Refusals.{passed, refused}
-use Rattle.plans.specs.Form.{earlier, free, parentGood, operandWord, bodyWord, headWord, width, stepCount}
+use Rattle.plans.specs.Form.{earlier, free, parentGood, operandWord, bodyWord, headWordFor, headWord, width, stepCount}
 use Rattle.plans.specs.Kinds.{spans, lengthGood}
 use Rattle.plans.specs.Inner.Reader.{headRun, bodyRun, stepForm, stepsForm, readForm}
 use Rattle.plans.specs.declared.form.Stepped.{Stepped}
@@ -100,7 +100,7 @@ module _ (rs : List Region) (ok : Orderly rs) (n : ℕ) (good : (r : Region) →
       shape-good = good x (region-in rs r h)
 
       head-good : (j : ℕ) → j < 4 → headWord p (length rs) set (length before) j ≡ true
-      unfolding headWord free
+      unfolding headWordFor free
       head-good = below-four (λ j. headWord p (length rs) set (length before) j ≡ true)
           (rw (kind-is rs r before rest) (length-known (shapeKind (x .shape)) (length body) (shape-length (x .shape) shape-good)))
           (rw (region-is rs r before rest, lt-ltb r (length rs) h, new))
