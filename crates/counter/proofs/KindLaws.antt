@@ -1,15 +1,15 @@
 -- Decoded steps by their kind: what is known of a body of good words, and whom a shape holds. A new kind has a row in each law at the end.
-use mathlib.Core.Path.{_≡_, refl}
+use mathlib.Core.Path.{_≡_, refl, sym}
 use mathlib.Core.Bool.{Bool, true, not}
 use mathlib.Core.List.{List}
-use Prim.Native.Nat.{ℕ, _+_, _-_, _*_, _/_, _%_, _<_, _≤_}
+use Prim.Native.Nat.{ℕ, zero, suc, _+_, _-_, _*_, _/_, _%_, _<_, _≤_}
 use native.Mathlib.Omega.{arith}
 use native.Mathlib.Decide.{decLt}
 use lib.IntN.{ℤ, pos, negsuc}
 use lib.ListN.{length, getD, drop, length-drop, List·getD-eq-default}
 use lib.Seq.{getD-drop}
 use lib.Signed.{leZ, _≤ℤ_, _<ℤ_, leZ-yes, ltZ-yes}
-use lib.Dec.{T, ltb, lit<}
+use lib.Dec.{T, eqb, ltb, leb, lit<}
 use borrow.Author.Tests.{eq-eqb, ne-eqb, le-ltb, ltb-true, leb-true, eqb-true}
 use Rattle.integers.specs.Inner.Bounds.{In}
 use Rattle.integers.specs.Range.{inRange}
@@ -19,16 +19,16 @@ use Rattle.plans.specs.Form.{dimensionGood, boxWord, polygonWord, entry, matrix
 use Rattle.plans.specs.Kinds.{lengthGood}
 use Rattle.plans.specs.declared.Kind.{Kind}
 use Rattle.plans.specs.declared.Kind.the-variants as K
-use Rattle.plans.proofs.IndexLaws.{and-both}
+use Rattle.plans.proofs.IndexLaws.{clash, and-both}
 use Rattle.plans.proofs.WordLaws.{word-there}
 use Rattle.plans.proofs.KindLaws.{by-both, length-range, earlier-low}
-use Rattle.counter.specs.Inner.Ranges.{OnScale, Vertices, WholeFields}
-use Rattle.counter.specs.Members.{valueIn, boxIn, polygonIn, ellipseIn, operandIn, shapeIn}
+use Rattle.counter.specs.Inner.Ranges.{OnScale, Vertices, Fields}
+use Rattle.counter.specs.Members.{valueIn, boxIn, polygonIn, ellipseIn, decimalEllipseIn, operandIn, shapeIn}
 use Rattle.counter.specs.Positions.{notOutside, isOnOutline}
-use Rattle.counter.specs.Outlines.{polygonOn, ellipseOn, shapeOn}
+use Rattle.counter.specs.Outlines.{polygonOn, ellipseOn, decimalEllipseOn, shapeOn}
 use Rattle.counter.specs.Inner.Steps.{planeOf, ovalOf, stepOf, headOf, positionIn, BoxBody, PlaneWithin, Operands, StepShaped}
 use Rattle.counter.specs.declared.steps.Head.{Head}
-use Rattle.counter.proofs.PositionLaws.{polygon-in, ellipse-in, without-outline-tells}
+use Rattle.counter.proofs.PositionLaws.{polygon-in, ellipse-in, decimal-in, without-outline-tells}
 
 -- ---- ranges
 
@@ -37,12 +37,12 @@ unfolding onScale inRange
 on-scale (pos u) e = let h = leb-true u 65535 (and-both (leZ (negsuc 65535) (pos u)) (leZ (pos u) (pos 65535)) e .1) in omega arith
 on-scale (negsuc u) e = let h = leb-true u 65535 (and-both (leZ (negsuc 65535) (negsuc u)) (leZ (negsuc u) (pos 65535)) e .0) in omega arith
 
-entry-in : (w : ℤ) → entry w ≡ true → In 16777216 w
+entry-in : (most : ℕ) (w : ℤ) → entry (pos most) w ≡ true → In most w
 unfolding entry inRange
-entry-in (pos u) e = let h = leb-true u 16777216 (and-both (leZ (negsuc 16777215) (pos u)) (leZ (pos u) (pos 16777216)) e .1) in record { abs = omega arith }
-entry-in (negsuc u) e =
-    let h = leb-true u 16777215 (and-both (leZ (negsuc 16777215) (negsuc u)) (leZ (negsuc u) (pos 16777216)) e .0) in
-    record { abs = omega arith }
+entry-in zero (pos u) e = let h = leb-true u 0 (and-both (leZ (pos 0) (pos u)) (leZ (pos u) (pos 0)) e .1) in record { abs = omega arith }
+entry-in zero (negsuc u) e = absurd (clash (sym e))
+entry-in (suc most) (pos u) e = let h = leb-true u (suc most) (and-both true (leb u (suc most)) e .1) in record { abs = omega arith }
+entry-in (suc most) (negsuc u) e = let h = leb-true u most (and-both (leb u most) true e .0) in record { abs = omega arith }
 
 from-true : {b : Bool} → b ≡ true → T b
 from-true e = rw e tt
@@ -101,21 +101,22 @@ module _ (n k set : ℕ) (body : List ℤ) where
           go (yes l) = rw (getD-drop, word-there body (2 + i) l) (on-scale (word body (2 + i)) (rw (le-ltb (2 + i) 2 (omega arith)) at (good (2 + i) l)))
           go (no l) = rw (List·getD-eq-default (drop 2 body) (pos 0) {n = i} (simp length-drop (omega arith))) (lit< tt)
 
-  ellipse-body : lengthGood K.Ellipse (length body) ≡ true → GoodWords K.Ellipse n k set body
-      → PlaneWithin n (planeOf body) × (8 ≤ length body) × WholeFields (word body 2) (word body 3) (word body 4) (word body 5) (word body 6) (word body 7)
+  -- an ellipse, whatever the ranges of its entries and of its D²
+  ellipse-body : (most far : ℕ) → eqb (length body) 8 ≡ true → ((i : ℕ) → i < length body → ellipseWord (pos most) (pos far) n body i ≡ true)
+      → PlaneWithin n (planeOf body) × (8 ≤ length body) × Fields most far (word body 2) (word body 3) (word body 4) (word body 5) (word body 6) (word body 7)
   unfolding ellipseWord matrixWord
-  ellipse-body e good =
+  ellipse-body most far e good =
       let m = eqb-true (length body) 8 e in (
         plane-within (good 0 (omega arith)) (good 1 (omega arith)),
         omega arith,
         record {
           m1-on = on-scale (word body 2) (good 2 (omega arith));
           m2-on = on-scale (word body 3) (good 3 (omega arith));
-          c11-in = entry-in (word body 4) (and-both (entry (word body 4)) _ (good 4 (omega arith)) .0);
-          c12-in = entry-in (word body 5) (good 5 (omega arith));
-          c22-in = entry-in (word body 6) (good 6 (omega arith));
-          d2-from = range-from (pos 1) (pos 4096) (word body 7) (good 7 (omega arith));
-          d2-to = range-to (pos 1) (pos 4096) (word body 7) (good 7 (omega arith));
+          c11-in = entry-in most (word body 4) (and-both (entry (pos most) (word body 4)) _ (good 4 (omega arith)) .0);
+          c12-in = entry-in most (word body 5) (good 5 (omega arith));
+          c22-in = entry-in most (word body 6) (good 6 (omega arith));
+          d2-from = range-from (pos 1) (pos far) (word body 7) (good 7 (omega arith));
+          d2-to = range-to (pos 1) (pos far) (word body 7) (good 7 (omega arith));
         },
       )
 
@@ -132,23 +133,25 @@ pub shaped : (kind : Kind) (h : Head) (n k set : ℕ) (body : List ℤ) → k �
 unfolding ovalOf
 shaped K.Box h n k set body few e good = box-body n k set body e good
 shaped K.Polygon h n k set body few e good = polygon-body n k set body e good
-shaped K.Ellipse h n k set body few e good = ellipse-body n k set body e good
+shaped K.Ellipse h n k set body few e good = ellipse-body n k set body 16777216 4096 e good
 shaped K.And h n k set body few e good = operands n k set body (length-range K.And (length body) e .0) few good
 shaped K.Or h n k set body few e good = operands n k set body (length-range K.Or (length body) e .0) few good
 shaped K.Not h n k set body few e good = operands n k set body (length-range K.Not (length body) e .0) few good
+shaped K.DecimalEllipse h n k set body few e good = ellipse-body n k set body 2000000000 4096000 e good
 shaped K.Unknown h n k set body few e good = tt
 
 -- the position of an event to it says whether the event is in the shape, and whether it is on the shape's outline
 pub position-tells : (kind : Kind) (h : Head) (event : List ℤ) (bits : ℕ) (body : List ℤ)
     → (notOutside (positionIn (stepOf kind h body) event bits body) ≡ shapeIn kind event bits body)
     × (isOnOutline (positionIn (stepOf kind h body) event bits body) ≡ shapeOn kind event body)
-unfolding planeOf ovalOf polygonIn ellipseIn polygonOn ellipseOn valueIn
+unfolding planeOf ovalOf polygonIn ellipseIn decimalEllipseIn polygonOn ellipseOn decimalEllipseOn valueIn
 position-tells K.Box h event bits body = without-outline-tells (boxIn event body)
 position-tells K.Polygon h event bits body = (polygon-in _ _ _, refl)
 position-tells K.Ellipse h event bits body = (ellipse-in _ _ _ _ _ _ _ _, refl)
 position-tells K.And h event bits body = without-outline-tells (all (operandIn bits body) (length body))
 position-tells K.Or h event bits body = without-outline-tells (any (operandIn bits body) (length body))
 position-tells K.Not h event bits body = without-outline-tells (not (operandIn bits body 0))
+position-tells K.DecimalEllipse h event bits body = (decimal-in _ _ _ _ _ _ _ _, refl)
 position-tells K.Unknown h event bits body = (refl, refl)
 
 -- it keeps its header
@@ -159,4 +162,5 @@ head-step K.Ellipse h body = refl
 head-step K.And h body = refl
 head-step K.Or h body = refl
 head-step K.Not h body = refl
+head-step K.DecimalEllipse h body = refl
 head-step K.Unknown h body = refl

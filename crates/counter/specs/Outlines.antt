@@ -8,19 +8,25 @@ use Rattle.plans.specs.Words.{word}
 use Rattle.plans.specs.Bits.{withBit}
 use Rattle.plans.specs.Form.{kindAt, regionAt, bodyAt, nextAt, stepCount}
 use Rattle.plans.specs.declared.Kind.{Kind}
-use Rattle.plans.specs.declared.Kind.the-variants.{Box, Polygon, Ellipse, And, Or, Not, Unknown}
+use Rattle.plans.specs.declared.Kind.the-variants.{Box, Polygon, Ellipse, And, Or, Not, DecimalEllipse, Unknown}
 use Rattle.counter.specs.Positions.{isOnOutline, polygonPosition, ellipsePosition}
+use Rattle.counter.specs.DecimalEllipse.{decimalEllipsePosition}
 use Rattle.counter.specs.Members.{valueIn, stepIn}
 
 -- ---- shapes
 
--- polygon and ellipse: the body's words as in `polygonIn` and `ellipseIn`
+-- polygon and ellipses: the body's words as in `polygonIn`, `ellipseIn` and `decimalEllipseIn`
 unfoldable pub polygonOn : List ℤ → List ℤ → Bool
 polygonOn event body = isOnOutline (polygonPosition (drop 2 body) (valueIn event body 0) (valueIn event body 1))
 
 unfoldable pub ellipseOn : List ℤ → List ℤ → Bool
 ellipseOn event body =
     isOnOutline (ellipsePosition (word body 2) (word body 3) (word body 4) (word body 5) (word body 6) (word body 7)
+    (valueIn event body 0) (valueIn event body 1))
+
+unfoldable pub decimalEllipseOn : List ℤ → List ℤ → Bool
+decimalEllipseOn event body =
+    isOnOutline (decimalEllipsePosition (word body 2) (word body 3) (word body 4) (word body 5) (word body 6) (word body 7)
     (valueIn event body 0) (valueIn event body 1))
 
 -- "Boxes and combinations never set one"
@@ -31,6 +37,7 @@ shapeOn Ellipse event body = ellipseOn event body
 shapeOn And event body = false
 shapeOn Or event body = false
 shapeOn Not event body = false
+shapeOn DecimalEllipse event body = decimalEllipseOn event body
 shapeOn Unknown event body = false
 
 -- ---- steps

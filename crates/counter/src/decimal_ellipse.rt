@@ -1,4 +1,4 @@
-// Whether a point is outside, inside or on the outline of an ellipse with decimals, exactly: by sums of 128 bits. No kind of step uses it yet.
+// Whether a point is outside, inside or on the outline of an ellipse with decimals, exactly: by sums of 128 bits.
 ghost use mathlib.Core.Path.{_≡_};
 ghost use Rattle.counter.specs.DecimalEllipse.{decimalEllipsePosition};
 ghost use Rattle.counter.specs.Inner.Ranges.{OnScale, DecimalFields};

@@ -108,7 +108,6 @@ scale-fits : (w : ℤ) → onScale w ≡ true → Fits w
 unfolding onScale
 scale-fits w e = range-fits (negsuc 65535) (pos 65535) w (omega arith) (omega arith) e
 
-
 -- either test of a choice
 pub choose : (b x y : Bool) {P : Type 0} → (b ≡ true → x ≡ true → P) → (b ≡ false → y ≡ true → P) → cond b x y ≡ true → P
 choose true x y f g e = f refl e

@@ -20,6 +20,12 @@ event-ellipse-position-requires c κs =
     let ellipse = rw (c .before .shape2 .given .1) at (entry .pre .2) in
     (entry .pre .0, ellipse .0, ellipse .2)
 
+event-decimal-ellipse-position-requires : tie.Need-event-decimal-ellipse-position-requires
+event-decimal-ellipse-position-requires c κs =
+    let entry = c .before .before .before in
+    let ellipse = rw (c .before .shape3 .given .1) at (entry .pre .2) in
+    (entry .pre .0, ellipse .0, ellipse .2)
+
 returns-2 : tie.Need-returns-2
 returns-2 c = rw (c .before .before .enum-told2 .given .1) (c .without-outline .ensures ∙ ap withoutOutline (c .before .in-box .ensures))
 
@@ -28,6 +34,9 @@ returns-3 c = rw (c .before .before .shape .given .1) (c .event-polygon-position
 
 returns-4 : tie.Need-returns-4
 returns-4 c = rw (c .before .before .shape2 .given .1) (c .event-ellipse-position .ensures)
+
+returns-5 : tie.Need-returns-5
+returns-5 c = rw (c .before .before .shape3 .given .1) (c .event-decimal-ellipse-position .ensures)
 
 pub shape-position-spec : {M : Type 1} → statement M
 shape-position-spec =
@@ -42,6 +51,9 @@ shape-position-spec =
     (λ c. search needs)
     event-ellipse-position-requires
     (λ c. search needs)
+    event-decimal-ellipse-position-requires
+    (λ c. search needs)
     returns-2
     returns-3
-    returns-4)
+    returns-4
+    returns-5)
