@@ -13,7 +13,7 @@ use Rattle.plans.specs.Form.{width}
 use Rattle.plans.proofs.IndexLaws.{all-at, howMany-same}
 use Rattle.counter.specs.Members.{bitsOf}
 use Rattle.counter.specs.Judging.{valueGood, taken, members}
-use Rattle.counter.specs.Counting.{eventAt, takenAt, spoiltAt, memberAt, inRegion, tallyOf, countPassed, countOf}
+use Rattle.counter.specs.Counting.{eventAt, takenAt, spoiltAt, memberAt, inRegion, tallyOf, countPassed, countFor, countOf}
 use Rattle.counter.proofs.TableLaws.{table-ext}
 
 -- parts of a list
@@ -88,5 +88,5 @@ module _ (keep : ℤ → ℤ) (alike : (v : ℤ) → onScale (keep v) ≡ onScal
 
   -- counting what is kept is counting the values
   pub count-kept : (p events : List ℤ) → countOf p (map keep events) ≡ countOf p events
-  unfolding countOf countPassed
+  unfolding countFor countPassed
   count-kept p events = rw (length-map events keep, tally-kept p events (length events / width p))

@@ -11,7 +11,7 @@ use lib.Seq.{sets}
 use Rattle.plans.specs.Refusals.{Verdict, passed, refused}
 use Rattle.plans.specs.Form.{width, checkOf}
 use Rattle.plans.proofs.RowLaws.{row-whole}
-use Rattle.counter.specs.Counting.{Counting, tallyOf, noTally, countPassed, countOf}
+use Rattle.counter.specs.Counting.{Counting, tallyOf, noTally, countPassed, countFor, countOf}
 use Rattle.counter.proofs.TallyLaws.{counts-long}
 use Rattle.gatec.specs.Answers.{checkRow, countRow}
 
@@ -20,7 +20,7 @@ check-whole v o h = row-whole (checkRow v) o h
 
 -- a tally has 64 counts
 count-long : (p events : List ℤ) → length (countOf p events .tally .counts) ≡ 64
-unfolding countOf countPassed noTally
+unfolding countFor countPassed noTally
 count-long p events = go (eqb (checkOf p .number) 0) (eqb (length events % width p) 0)
   where
     counted : Counting

@@ -15,7 +15,7 @@ use Rattle.plans.specs.Words.{word, number, part}
 use Rattle.integers.specs.Range.{inRange}
 use Rattle.plans.specs.Refusals.{passed}
 use Rattle.plans.specs.Bits.{withBit}
-use Rattle.plans.specs.Form.{earlier, free, parentGood, kindAt, regionAt, lengthAt, bodyAt, nextAt, headWordFor, headWord, stepsWordFor, stepsWord, width, stepCount, wordGoodFor, checkOf}
+use Rattle.plans.specs.Form.{today, earlier, free, parentGood, kindAt, regionAt, lengthAt, bodyAt, nextAt, headWordFor, headWord, stepsWordFor, stepsWord, width, stepCount, wordGoodFor, checkOf}
 use Rattle.plans.proofs.KindLaws.{known-number, spans-both, length-range, range-fits, number-fits, choose, earlier-low, body-fits}
 use Rattle.plans.proofs.PlanTheorems.{passed→form}
 use Rattle.runreport.specs.PlanReading.{fitsWord}
@@ -72,7 +72,7 @@ steps-fit p n k narrow few (suc left) set at i l e =
 module _ (p : List ℤ) (ok : checkOf p ≡ passed) where
   width-most : width p ≤ 8
   unfolding wordGoodFor
-  width-most = spans-both 1 8 (width p) (passed→form p ok .1 .words 0 (omega (arith, head-there p ok))) .1
+  width-most = spans-both 1 8 (width p) (passed→form today p ok .1 .words 0 (omega (arith, head-there p ok))) .1
 
   word-fits : (i : ℕ) → i < length p → fitsWord (word p i) ≡ true
   unfolding wordGoodFor width stepCount fitsWord
@@ -82,7 +82,7 @@ module _ (p : List ℤ) (ok : checkOf p ≡ passed) where
       (λ b. choose (eqb i 1) _ _
       (λ c e. let q : i ≡ 1 = eqb-true i 1 c in rw q (number-fits (word p 1) (omega (arith, spans-both 0 64 (number (word p 1)) e .1))))
       (λ c. steps-fit p (width p) (stepCount p) width-most (count-most p ok) (stepCount p) 0 2 i (omega (arith, eqb-false i 0 b, eqb-false i 1 c))))
-      (passed→form p ok .1 .words i h)
+      (passed→form today p ok .1 .words i h)
 
   -- every word of a plan that passes fits 32 bits
   pub words-fit : every fitsWord p ≡ true

@@ -24,7 +24,7 @@ use Rattle.text.proofs.OutputLaws.{decimal-length}
 use Rattle.events.proofs.PrintingLaws.{written-more}
 use Rattle.plans.specs.Words.{word, number, part}
 use Rattle.plans.specs.Refusals.{passed}
-use Rattle.plans.specs.Form.{lengthAt, nextAt, stepCount, stepsEnd, planEnd, checkOf}
+use Rattle.plans.specs.Form.{today, lengthAt, nextAt, stepCount, stepsEnd, planEnd, checkOf}
 use Rattle.plans.proofs.PlanTheorems.{passed→form}
 use Rattle.runreport.proofs.RunLaws.{steps-from, head-there}
 use Rattle.planreport.specs.PlanText.{wordText, wordsLine, stepParts, planParts, planText}
@@ -84,7 +84,7 @@ ended-none ws i h = rw (drop-of-length-le ws h)
 
 module _ (p : List ℤ) (ok : checkOf p ≡ passed) where
   pub plan-few : length p ≤ 4096
-  plan-few = passed→form p ok .0
+  plan-few = passed→form today p ok .0
 
   pub head-length : length (part p 0 2) ≡ 2
   unfolding part
@@ -96,7 +96,7 @@ module _ (p : List ℤ) (ok : checkOf p ≡ passed) where
 
   pub plan-ends : stepsEnd (stepCount p) p 2 ≡ length p
   unfolding planEnd
-  plan-ends = passed→form p ok .1 .ends
+  plan-ends = passed→form today p ok .1 .ends
 
 pub length-is : (p : List ℤ) (at : ℕ) → lengthAt p at ≡ number (word p (at + 3))
 unfolding lengthAt

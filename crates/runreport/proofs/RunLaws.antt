@@ -14,7 +14,7 @@ use Rattle.text.specs.Output.{over, Writes}
 use Rattle.text.proofs.OutputLaws.{over-fits}
 use Rattle.plans.specs.Words.{word, number}
 use Rattle.plans.specs.Refusals.{Verdict, passed, refused, refusal, verdict}
-use Rattle.plans.specs.Form.{width, stepCount, nextAt, stepsEnd, planEnd, wordGoodFor, lowestBad, formFor, formOf, checkFor, checkOf}
+use Rattle.plans.specs.Form.{today, width, stepCount, nextAt, stepsEnd, planEnd, wordGoodFor, lowestBad, formFor, formOf, checkFor, checkOf}
 use Rattle.plans.specs.declared.Refusal.{Refusal}
 use Rattle.plans.specs.declared.Refusal.the-variants.{LongPlan, Malformed, Ragged as RaggedList, Spoilt}
 use Rattle.plans.specs.declared.Checked.{Checked}
@@ -111,11 +111,11 @@ module _ (p : List ℤ) where
   module _ (ok : checkOf p ≡ passed) where
     pub head-there : 2 ≤ length p
     unfolding planEnd
-    head-there = omega (arith, passed→form p ok .1 .ends, steps-from (stepCount p) 2)
+    head-there = omega (arith, passed→form today p ok .1 .ends, steps-from (stepCount p) 2)
 
     pub count-most : stepCount p ≤ 64
     unfolding wordGoodFor
-    count-most = few-steps (passed→form p ok .1 .words 1 (omega (arith, head-there)))
+    count-most = few-steps (passed→form today p ok .1 .words 1 (omega (arith, head-there)))
 
 -- ---- the events
 

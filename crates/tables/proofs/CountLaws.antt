@@ -18,7 +18,7 @@ use Rattle.plans.proofs.IndexLaws.{howMany-same}
 use Rattle.plans.proofs.BitLaws.{no-bit}
 use Rattle.counter.specs.Members.{bitsOf}
 use Rattle.counter.specs.Judging.{taken, members}
-use Rattle.counter.specs.Counting.{eventAt, takenAt, spoiltAt, memberAt, listFrom, inRegion, tallyOf, countPassed, countOf}
+use Rattle.counter.specs.Counting.{eventAt, takenAt, spoiltAt, memberAt, listFrom, inRegion, tallyOf, countPassed, countFor, countOf}
 use Rattle.text.proofs.TestLaws.{passed-or-failed}
 use Rattle.gates.specs.Gate.{Name, Event, Quadrant, Body, one, quad, Gate, Region, regionsOf, regions}
 use Rattle.gates.specs.Meaning.{holds}
@@ -42,7 +42,7 @@ plan-width n rs = refl
 
 pub counted : (p values : List ℤ) → checkOf p ≡ passed → length values % width p ≡ 0
     → countOf p values ≡ record { verdict = passed; tally = tallyOf p values (length values / width p) }
-unfolding countOf countPassed
+unfolding countFor countPassed
 counted p values e h = rw (e, h)
 
 module _ (n : ℕ) (rs : List Region) (values : List ℤ) (m : ℕ) where

@@ -131,7 +131,7 @@ unfolding tableCases tableOutlineCases sameWords answer inGate onGate example ex
     Form.regionAt Form.lengthAt Form.bodyAt Form.nextAt Form.headWordFor Form.stepsWordFor Form.stepsEnd Form.width Form.stepCount Form.wordGoodFor Form.planEnd
     Form.lowestBadFor Form.formFor Form.checkFor Placing.valueIn Placing.tripleIn Placing.boxIn Placing.polygonIn Placing.ellipseIn Placing.operandIn
     Placing.parentIn Placing.stepIn Placing.settled Placing.bitsOf Judging.firstSpoilt Judging.members Counting.eventAt Counting.takenAt Counting.spoiltAt
-    Counting.memberAt Counting.listFrom Counting.inRegion Counting.tallyOf Counting.countPassed Counting.countOf TableCount.countTableOf
+    Counting.memberAt Counting.listFrom Counting.inRegion Counting.tallyOf Counting.countPassed Counting.countFor TableCount.countTableOf
     Meaning.inTriple Meaning.inRect Meaning.inQuadrant Positions.ellipsePosition LineOutlines.onEllip TableOutlines.outlineMember
 table-cases = (
   (refl, (refl, (refl, (refl, (refl, (refl, (refl, tt))))))),

@@ -12,7 +12,7 @@ use borrow.Author.Tests.{eqb-true, ne-eqb}
 use Rattle.plans.specs.Refusals.{passed, refused}
 use Rattle.plans.specs.Form.{width, checkOf}
 use Rattle.text.proofs.TestLaws.{true≢false, passed-or-failed}
-use Rattle.counter.specs.Counting.{countPassed, Counting, countOf}
+use Rattle.counter.specs.Counting.{countPassed, Counting, countFor, countOf}
 use Rattle.gates.specs.Gate.{regions}
 use Rattle.tables.specs.Head.{dimensions, gates}
 use Rattle.tables.specs.Refusals.{tableVerdict}
@@ -62,7 +62,7 @@ module _ (text : List ℕ) (slice values : List ℤ) where
 
     -- others are refused
     pub ragged-refused : (length values % length (dimensions text) ≡ 0 → ⊥) → countTableOf text slice values ≡ uncounted slice (refused 23 (length values))
-    unfolding countOf countPassed
+    unfolding countFor countPassed
     ragged-refused h =
         let p : checkOf (planOf text) ≡ passed = plan-passes (length slice) text accepted in
         let r = ne-eqb (length values % length (dimensions text)) 0 h in
