@@ -16,6 +16,7 @@
  *     3 ellipse         two dimensions, two means, c11, c12, c22, D^2       8
  *     4 and, 5 or       2 * region, plus 1 for the events not in it         2 to 63
  *     6 not             likewise                                            1
+ *     7 decimal ellipse as 3, with c11, c12, c22, D^2 in thousandths        8
  *
  * An event is n values. It is taken when each is from -65,536 to 65,535, else it is spoilt and a member of no region.
  *
@@ -58,7 +59,8 @@ enum gate_kind {
     GATE_ELLIPSE = 3,
     GATE_AND = 4,
     GATE_OR = 5,
-    GATE_NOT = 6
+    GATE_NOT = 6,
+    GATE_DECIMAL_ELLIPSE = 7
 };
 
 /* What stands where in `out`, and the lengths of `out`. */

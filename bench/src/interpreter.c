@@ -9,6 +9,9 @@
 
 enum { MIN_VALUE = -65536, MAX_VALUE = 65535, MAX_ENTRY = 16777216, MAX_D2 = 4096, MAX_STEPS = GATE_REGIONS };
 
+/* Entries and D^2 of a decimal ellipse are in thousandths. */
+enum { MAX_DECIMAL_ENTRY = 2000000000, MAX_DECIMAL_D2 = 4096000 };
+
 /* Where a step's header and an ellipse's body have their words. */
 enum { KIND, REGION, PARENT, LENGTH, HEADER };
 enum { MEAN_X = 2, MEAN_Y, C11, C12, C22, D2, ELLIPSE_LENGTH };
@@ -69,6 +72,25 @@ static int64_t right_side(const int32_t *body) {
 
 static bool in_ellipse(const int32_t *body, const int32_t *event) { return left_side(body, event) <= right_side(body); }
 
+/* The sides of a decimal ellipse's rule, both multiplied by 1000^3, pass 64 bits; a product of two factors doesn't. */
+typedef __int128 wide;
+
+static wide decimal_left_side(const int32_t *body, const int32_t *event) {
+    int64_t dx = (int64_t)event[body[0]] - body[MEAN_X], dy = (int64_t)event[body[1]] - body[MEAN_Y];
+    int64_t c11 = body[C11], c12 = body[C12], c22 = body[C22];
+    return ((wide)(c22 * dx) * dx - (wide)(2 * c12 * dx) * dy + (wide)(c11 * dy) * dy) * 1000000;
+}
+
+static wide decimal_right_side(const int32_t *body) {
+    int64_t c11 = body[C11], c12 = body[C12], c22 = body[C22];
+    return (wide)(c11 * c22 - c12 * c12) * body[D2];
+}
+
+/* Inlined it would make counting boxes slower by up to a quarter. */
+__attribute__((noinline)) static bool in_decimal_ellipse(const int32_t *body, const int32_t *event) {
+    return decimal_left_side(body, event) <= decimal_right_side(body);
+}
+
 static bool operand(uint64_t bits, int32_t word) { return has(bits, word / 2) != (word % 2 == 1); }
 
 static bool in_all(const int32_t *body, int length, uint64_t bits) {
@@ -90,6 +112,7 @@ static bool in_shape(int32_t kind, const int32_t *body, int length, const int32_
     case GATE_BOX: return in_box(body, length, event);
     case GATE_POLYGON: return in_polygon(body, length, event);
     case GATE_ELLIPSE: return in_ellipse(body, event);
+    case GATE_DECIMAL_ELLIPSE: return in_decimal_ellipse(body, event);
     case GATE_AND: return in_all(body, length, bits);
     case GATE_OR: return in_any(body, length, bits);
     default: return !operand(bits, body[0]);
@@ -130,6 +153,7 @@ static bool on_outline(int32_t kind, const int32_t *body, int length, const int3
     switch (kind) {
     case GATE_POLYGON: return on_polygon(body, length, event);
     case GATE_ELLIPSE: return left_side(body, event) == right_side(body);
+    case GATE_DECIMAL_ELLIPSE: return decimal_left_side(body, event) == decimal_right_side(body);
     default: return false;
     }
 }
@@ -163,7 +187,8 @@ static bool length_good(int32_t kind, int32_t length) {
     switch (kind) {
     case GATE_BOX: return within(3, length, 24) && length % 3 == 0;
     case GATE_POLYGON: return within(8, length, 514) && length % 2 == 0;
-    case GATE_ELLIPSE: return length == ELLIPSE_LENGTH;
+    case GATE_ELLIPSE:
+    case GATE_DECIMAL_ELLIPSE: return length == ELLIPSE_LENGTH;
     case GATE_NOT: return length == 1;
     default: return within(2, length, 63);
     }
@@ -189,11 +214,11 @@ static bool box_word_good(const int32_t *body, int i, int n) {
     }
 }
 
-static bool ellipse_word_good(const int32_t *body, int i, int n) {
+static bool ellipse_word_good(const int32_t *body, int i, int n, int32_t max_entry, int32_t max_d2) {
     if (i < MEAN_X) return dimension_good(body, i, 1, n);
     if (i < C11) return within(MIN_VALUE, body[i], MAX_VALUE);
-    if (i < D2) return within(-MAX_ENTRY, body[i], MAX_ENTRY);
-    return within(1, body[i], MAX_D2);
+    if (i < D2) return within(-max_entry, body[i], max_entry);
+    return within(1, body[i], max_d2);
 }
 
 /* Word i of a body, by itself and by the words before it. */
@@ -201,10 +226,13 @@ static bool body_word_good(int32_t kind, const int32_t *body, int i, int n, uint
     switch (kind) {
     case GATE_BOX: return box_word_good(body, i, n);
     case GATE_POLYGON: return i < 2 ? dimension_good(body, i, 1, n) : within(MIN_VALUE, body[i], MAX_VALUE);
-    case GATE_ELLIPSE: return ellipse_word_good(body, i, n);
+    case GATE_ELLIPSE: return ellipse_word_good(body, i, n, MAX_ENTRY, MAX_D2);
+    case GATE_DECIMAL_ELLIPSE: return ellipse_word_good(body, i, n, MAX_DECIMAL_ENTRY, MAX_DECIMAL_D2);
     default: return body[i] >= 0 && earlier(set, body[i] / 2);
     }
 }
+
+static bool has_matrix(int32_t kind) { return kind == GATE_ELLIPSE || kind == GATE_DECIMAL_ELLIPSE; }
 
 static bool matrix_good(const int32_t *body) {
     int64_t c11 = body[C11], c12 = body[C12], c22 = body[C22];
@@ -221,7 +249,7 @@ static size_t bad_word(const int32_t *plan, size_t plan_len) {
     for (int s = 0; s < steps; s++) {
         const int32_t *step = plan + at, *body = step + HEADER;
         size_t left = plan_len - at;
-        if (left <= KIND || !within(GATE_BOX, step[KIND], GATE_NOT)) return at + KIND;
+        if (left <= KIND || !within(GATE_BOX, step[KIND], GATE_DECIMAL_ELLIPSE)) return at + KIND;
         if (left <= REGION || !within(0, step[REGION], steps - 1) || has(set, step[REGION])) return at + REGION;
         if (left <= PARENT || !(step[PARENT] == GATE_NO_PARENT || earlier(set, step[PARENT]))) return at + PARENT;
         if (left <= LENGTH || !length_good(step[KIND], step[LENGTH])) return at + LENGTH;
@@ -229,7 +257,7 @@ static size_t bad_word(const int32_t *plan, size_t plan_len) {
         for (int i = 0; i < length; i++) {
             if (left <= (size_t)(HEADER + i)) return plan_len;
             if (!body_word_good(step[KIND], body, i, n, set)) return at + HEADER + i;
-            if (step[KIND] == GATE_ELLIPSE && i == C22 && !matrix_good(body)) return at + HEADER + C11;
+            if (has_matrix(step[KIND]) && i == C22 && !matrix_good(body)) return at + HEADER + C11;
         }
         set |= (uint64_t)1 << step[REGION];
         at += HEADER + length;

@@ -12,6 +12,10 @@ mod counter {
     const REGIONS: usize = 64;
     const NO_PARENT: i32 = -1;
 
+    /// Entries and D^2 of a decimal ellipse are in thousandths.
+    const MAX_DECIMAL_ENTRY: i32 = 2_000_000_000;
+    const MAX_DECIMAL_D2: i32 = 4_096_000;
+
     /// Words of a step before its body.
     const HEADER: usize = 4;
 
@@ -33,6 +37,7 @@ mod counter {
         Box(&'a [i32]),
         Polygon(&'a [i32]),
         Ellipse(&'a [i32]),
+        DecimalEllipse(&'a [i32]),
         And(&'a [i32]),
         Or(&'a [i32]),
         Not(i32),
@@ -54,7 +59,8 @@ mod counter {
             3 => Shape::Ellipse(body),
             4 => Shape::And(body),
             5 => Shape::Or(body),
-            _ => Shape::Not(body[0]),
+            6 => Shape::Not(body[0]),
+            _ => Shape::DecimalEllipse(body),
         };
         Step { region: plan[at + 1], parent: plan[at + 2], shape, next }
     }
@@ -110,17 +116,33 @@ mod counter {
         off_outline(sum != 0)
     }
 
+    /// The position by the two sides of an ellipse's rule.
+    fn position_by_sides<T: PartialOrd>(left: T, right: T) -> Position {
+        if left == right {
+            Position::OnOutline
+        } else {
+            off_outline(left < right)
+        }
+    }
+
     fn ellipse_position(body: &[i32], event: &[i32]) -> Position {
         let dx = event[body[0] as usize] as i64 - body[2] as i64;
         let dy = event[body[1] as usize] as i64 - body[3] as i64;
         let (c11, c12, c22, d2) = (body[4] as i64, body[5] as i64, body[6] as i64, body[7] as i64);
         let left = c22 * dx * dx - 2 * c12 * dx * dy + c11 * dy * dy;
         let right = d2 * (c11 * c22 - c12 * c12);
-        if left == right {
-            Position::OnOutline
-        } else {
-            off_outline(left < right)
-        }
+        position_by_sides(left, right)
+    }
+
+    /// Both sides of the rule, multiplied by 1000^3, pass 64 bits; a product of two of their factors doesn't.
+    fn decimal_ellipse_position(body: &[i32], event: &[i32]) -> Position {
+        let dx = event[body[0] as usize] as i64 - body[2] as i64;
+        let dy = event[body[1] as usize] as i64 - body[3] as i64;
+        let (c11, c12, c22) = (body[4] as i64, body[5] as i64, body[6] as i64);
+        let wide = |a: i64, b: i64| a as i128 * b as i128;
+        let left = (wide(c22 * dx, dx) - wide(2 * c12 * dx, dy) + wide(c11 * dy, dy)) * 1_000_000;
+        let right = wide(c11 * c22 - c12 * c12, body[7] as i64);
+        position_by_sides(left, right)
     }
 
     fn operand(bits: u64, word: i32) -> bool {
@@ -132,6 +154,7 @@ mod counter {
             Shape::Box(body) => off_outline(in_box(body, event)),
             Shape::Polygon(body) => polygon_position(body, event),
             Shape::Ellipse(body) => ellipse_position(body, event),
+            Shape::DecimalEllipse(body) => decimal_ellipse_position(body, event),
             Shape::And(body) => off_outline(body.iter().all(|&word| operand(bits, word))),
             Shape::Or(body) => off_outline(body.iter().any(|&word| operand(bits, word))),
             Shape::Not(word) => off_outline(!operand(bits, word)),
@@ -173,7 +196,7 @@ mod counter {
         match kind {
             1 => (3..=24).contains(&length) && length % 3 == 0,
             2 => (8..=514).contains(&length) && length % 2 == 0,
-            3 => length == 8,
+            3 | 7 => length == 8,
             6 => length == 1,
             _ => (2..=63).contains(&length),
         }
@@ -199,10 +222,12 @@ mod counter {
                 1 => value_good,
                 _ => (MIN_VALUE + 1..=MAX_VALUE + 1).contains(&x) && before[i - 1] < x,
             },
-            (2, 0..=1) | (3, 0..=1) => dimension_good(before, 1, x, n),
-            (2, _) | (3, 2..=3) => value_good,
+            (2 | 3 | 7, 0..=1) => dimension_good(before, 1, x, n),
+            (2, _) | (3 | 7, 2..=3) => value_good,
             (3, C11..=C22) => (-MAX_ENTRY..=MAX_ENTRY).contains(&x),
             (3, _) => (1..=MAX_D2).contains(&x),
+            (7, C11..=C22) => (-MAX_DECIMAL_ENTRY..=MAX_DECIMAL_ENTRY).contains(&x),
+            (7, _) => (1..=MAX_DECIMAL_D2).contains(&x),
             _ => x >= 0 && earlier(set, x / 2),
         }
     }
@@ -223,7 +248,7 @@ mod counter {
         let (mut at, mut set) = (2, 0);
         for _ in 0..steps {
             let kind = word(at)?;
-            demand((1..=6).contains(&kind), at)?;
+            demand((1..=7).contains(&kind), at)?;
             let region = word(at + 1)?;
             demand((0..steps).contains(&region) && !has(set, region), at + 1)?;
             let parent = word(at + 2)?;
@@ -235,7 +260,7 @@ mod counter {
             for place in body..next {
                 let x = word(place)?;
                 demand(body_word_good(kind, &plan[body..place], x, n, set), place)?;
-                if kind == 3 && place == body + C22 {
+                if (kind == 3 || kind == 7) && place == body + C22 {
                     demand(matrix_good(&plan[body..=place]), body + C11)?;
                 }
             }
