@@ -2,7 +2,8 @@
  * agree PLANS NAME=LIB.so ..: runs random plans and events through gate_check, gate_judge and gate_count of all
  * libraries and demands equal answers. Plans are of good form and damaged, and of all kinds; many events lie on a
  * bound, an edge or a rim, and each kind of outline must be met. A library after the first may be that of an earlier
- * counter: as many numbers are compared as its row has.
+ * counter: as many numbers are compared as its row has, and a plan must be refused by it at the first kind of step that
+ * it does not know.
  */
 #include "libraries.h"
 #include "plans.h"
@@ -55,12 +56,33 @@ static struct answer ask(const struct library *library, enum function function, 
     return answer;
 }
 
-/* Whether the `len` numbers of a row are those of the first library, and none was written beyond them. */
-static bool agrees(const struct answer *answer, const struct answer *first, size_t len) {
+/* The place of the first kind of step above last_kind, the plan's length where there is none. */
+static size_t new_word(const struct plan *plan, int32_t last_kind) {
+    size_t at = 2;
+    for (int32_t s = 0; at < plan->len && s < plan->words[1]; s++) {
+        if (plan->words[at] > last_kind) return at;
+        if (plan->len - at < 4 || plan->words[at + 3] < 0) break;
+        at += 4 + (size_t)plan->words[at + 3];
+    }
+    return plan->len;
+}
+
+/* The answer that a library owes: the first one's, or that of refusing a kind of step that it does not know. */
+static struct answer owed_by(const struct library *library, const struct plan *plan, const struct answer *first) {
+    const uint64_t *out = first->out;
+    size_t place = new_word(plan, library->last_kind);
+    bool refused = out[GATE_OUT_REFUSAL] == GATE_LONG_PLAN || out[GATE_OUT_REFUSAL] == GATE_MALFORMED_PLAN;
+    if (place == plan->len || (refused && out[GATE_OUT_PLACE] <= place)) return *first;
+    struct answer owed = {{GATE_MALFORMED_PLAN, place}};
+    return owed;
+}
+
+/* Whether the `len` numbers of a row are those that are owed, and none was written beyond them. */
+static bool agrees(const struct answer *answer, const struct answer *owed, size_t len) {
     for (size_t i = len; i <= GATE_COUNT_OUT; i++) {
         if (answer->out[i] != GUARD) return false;
     }
-    return memcmp(answer->out, first->out, len * sizeof answer->out[0]) == 0;
+    return memcmp(answer->out, owed->out, len * sizeof answer->out[0]) == 0;
 }
 
 /* The answer of all libraries; ends the program where two differ or one writes beyond `out`. */
@@ -70,12 +92,13 @@ static struct answer ask_all(enum function function, const struct plan *plan,
     for (int i = 0; i < library_count; i++) {
         size_t len = out_length(&libraries[i], function);
         struct answer answer = ask(&libraries[i], function, plan, events, events_len);
-        if (agrees(&answer, &first, len)) continue;
+        struct answer owed = owed_by(&libraries[i], plan, &first);
+        if (agrees(&answer, &owed, len)) continue;
         fprintf(stderr, "%s: %s and %s differ, or write beyond out\n", function_names[function], libraries[0].name,
                 libraries[i].name);
         for (size_t j = 0; j <= len; j++) {
-            if (answer.out[j] != first.out[j] || j < 2) {
-                fprintf(stderr, "out[%zu]: %" PRIu64 ", %" PRIu64 "\n", j, first.out[j], answer.out[j]);
+            if (answer.out[j] != owed.out[j] || j < 2) {
+                fprintf(stderr, "out[%zu]: %" PRIu64 ", %" PRIu64 "\n", j, owed.out[j], answer.out[j]);
             }
         }
         print_words("plan", plan->words, plan->len);
@@ -87,9 +110,10 @@ static struct answer ask_all(enum function function, const struct plan *plan,
 
 /* ---- Outlines ---- */
 
-enum outline { POLYGON, UPRIGHT_ELLIPSE, TILTED_ELLIPSE, OUTLINES };
+enum outline { POLYGON, UPRIGHT_ELLIPSE, TILTED_ELLIPSE, UPRIGHT_DECIMAL, TILTED_DECIMAL, OUTLINES };
 
-static const char *const outline_names[] = {"polygon", "upright ellipse", "tilted ellipse"};
+static const char *const outline_names[] = {"polygon", "upright ellipse", "tilted ellipse", "upright decimal ellipse",
+                                            "tilted decimal ellipse"};
 
 static uint64_t outline_bits[OUTLINES]; /* those that judged events had */
 
@@ -101,13 +125,14 @@ static void note_outlines(const struct plan *plan, uint64_t outline) {
         int bit = gate_is_on_outline(outline, step[1]);
         if (step[0] == GATE_POLYGON) outline_bits[POLYGON] += bit;
         else if (step[0] == GATE_ELLIPSE) outline_bits[body[5] == 0 ? UPRIGHT_ELLIPSE : TILTED_ELLIPSE] += bit;
+        else if (step[0] == GATE_DECIMAL_ELLIPSE) outline_bits[body[5] == 0 ? UPRIGHT_DECIMAL : TILTED_DECIMAL] += bit;
         step = body + step[3];
     }
 }
 
 /* Prints the outline bits of each shape; ends the program where a shape has none. */
 static void demand_outlines(void) {
-    for (int i = 0; i < OUTLINES; i++) printf("outline bits, %-16s %8" PRIu64 "\n", outline_names[i], outline_bits[i]);
+    for (int i = 0; i < OUTLINES; i++) printf("outline bits, %-23s %8" PRIu64 "\n", outline_names[i], outline_bits[i]);
     for (int i = 0; i < OUTLINES; i++) {
         if (outline_bits[i] > 0) continue;
         fprintf(stderr, "no outline bit was met, %s\n", outline_names[i]);
@@ -122,7 +147,7 @@ int main(int argc, char **argv) {
     }
     long plans = strtol(argv[1], NULL, 10);
     for (int i = 2; i < argc; i++) libraries[library_count++] = load_library(argv[i]);
-    if (libraries[0].judge_out != GATE_JUDGE_OUT) {
+    if (libraries[0].judge_out != GATE_JUDGE_OUT || libraries[0].last_kind < LAST_KIND) {
         fprintf(stderr, "%s: an earlier counter can't be the first library\n", libraries[0].name);
         return 1;
     }
@@ -157,7 +182,12 @@ int main(int argc, char **argv) {
 
     printf("Agreement of %d libraries:", library_count);
     for (int i = 0; i < library_count; i++) printf(" %s", libraries[i].name);
-    printf("\n%-12s %8s %8s %8s %8s %8s\n", "", "pass", "21", "22", "23", "24");
+    printf("\n");
+    for (int i = 0; i < library_count; i++) {
+        if (libraries[i].last_kind == LAST_KIND) continue;
+        printf("%s has the kinds of step up to %" PRId32 " and must refuse others\n", libraries[i].name, libraries[i].last_kind);
+    }
+    printf("%-12s %8s %8s %8s %8s %8s\n", "", "pass", "21", "22", "23", "24");
     const uint64_t *rows[] = {checked, judged, counted};
     for (int i = CHECK; i <= COUNT; i++) {
         printf("%-12s %8" PRIu64, function_names[i], rows[i][GATE_PASSES]);

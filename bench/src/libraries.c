@@ -2,6 +2,7 @@
 #include "libraries.h"
 
 #include <dlfcn.h>
+#include <stdbool.h>
 #include <stdio.h>
 #include <stdlib.h>
 #include <string.h>
@@ -28,6 +29,14 @@ static void load_judge(struct library *library, const char *file) {
     *(void **)&library->judge = address == NULL ? load_function(file, "gate_judge") : address;
 }
 
+/* A plan that ends after its first kind is refused at the next word where that kind is known, else at the kind's. */
+static bool knows_kind(const struct library *library, int32_t kind) {
+    const int32_t plan[] = {1, 1, kind};
+    uint64_t out[GATE_CHECK_OUT];
+    library->check(plan, 3, out);
+    return out[GATE_OUT_PLACE] == 3;
+}
+
 struct library load_library(char *argument) {
     struct library library;
     char *equals = strchr(argument, '=');
@@ -41,5 +50,7 @@ struct library load_library(char *argument) {
     *(void **)&library.check = load_function(equals + 1, "gate_check");
     *(void **)&library.count = load_function(equals + 1, "gate_count");
     load_judge(&library, equals + 1);
+    library.last_kind = 0;
+    while (library.last_kind < LAST_KIND && knows_kind(&library, library.last_kind + 1)) library.last_kind++;
     return library;
 }

@@ -4,12 +4,15 @@
 
 #include "gatecount.h"
 
+enum { LAST_KIND = GATE_DECIMAL_ELLIPSE }; /* of step */
+
 /* One that has the functions of gatecount.h, or those of an earlier counter. */
 struct library {
     const char *name;
     void (*check)(const int32_t *plan, size_t plan_len, uint64_t *out);
     void (*judge)(const int32_t *plan, size_t plan_len, const int32_t *event, size_t event_len, uint64_t *out);
-    size_t judge_out; /* numbers in the row of judge: GATE_JUDGE_OUT, fewer in an earlier counter */
+    size_t judge_out;  /* numbers in the row of judge: GATE_JUDGE_OUT, fewer in an earlier counter */
+    int32_t last_kind; /* the last kind of step that it knows: LAST_KIND, a lower one in an earlier counter */
     void (*count)(const int32_t *plan, size_t plan_len, const int32_t *events, size_t events_len, uint64_t *out);
 };
 

@@ -4,6 +4,7 @@
 #include <math.h>
 
 enum { MIN_VALUE = -65536, MAX_VALUE = 65535, VALUES = 131072, FULL_REACH = 65536, MAX_ENTRY = 16777216 };
+enum { MAX_DECIMAL_ENTRY = 2000000000, MAX_DECIMAL_D2 = 4096000 }; /* thousandths */
 enum { MAX_VERTICES = 256, MAX_OPERANDS = 63 };
 
 /* ---- Random numbers ---- */
@@ -26,7 +27,7 @@ static bool one_in(struct random *random, uint64_t limit) { return below(random,
 
 /* From low to high. */
 static int32_t from_to(struct random *random, int32_t low, int32_t high) {
-    return low + (int32_t)below(random, (uint64_t)((int64_t)high - low + 1));
+    return (int32_t)(low + (int64_t)below(random, (uint64_t)((int64_t)high - low + 1)));
 }
 
 static int32_t any_value(struct random *random) { return from_to(random, MIN_VALUE, MAX_VALUE); }
@@ -128,6 +129,23 @@ void ellipses_load(struct plan *plan, int count) {
     }
 }
 
+void decimal_ellipses_load(struct plan *plan, int count) {
+    struct random random = seeded(7);
+    begin_plan(plan, 2, count);
+    for (int i = 0; i < count; i++) {
+        begin_step(plan, GATE_DECIMAL_ELLIPSE, i, GATE_NO_PARENT);
+        add_word(plan, 0);
+        add_word(plan, 1);
+        add_word(plan, from_to(&random, -8000, 8000));
+        add_word(plan, from_to(&random, -8000, 8000));
+        add_word(plan, from_to(&random, 1250000000, 1750000000));
+        add_word(plan, from_to(&random, -500000000, 500000000));
+        add_word(plan, from_to(&random, 1250000000, 1750000000));
+        add_word(plan, 2048500);
+        end_step(plan);
+    }
+}
+
 void even_events(int32_t *events, int n, size_t count) {
     struct random random = seeded(3);
     for (size_t i = 0; i < count * n; i++) events[i] = any_value(&random);
@@ -204,6 +222,59 @@ static void random_ellipse(struct random *random, struct plan *plan, int n) {
     add_word(plan, greatest ? 4096 : d * d);
 }
 
+/* The four words that a decimal ellipse has in thousandths. */
+struct thousandths {
+    int32_t c11, c12, c22, d2;
+};
+
+/*
+ * With c11 = k a^2, c12 = k a b, c22 = k (b^2 + f^2) and k D^2 = 1000^2 t^2 the whole points (t a, t b) and (0, t f)
+ * from the mean lie on the rim.
+ */
+static struct thousandths rim_thousandths(struct random *random, bool small) {
+    static const int32_t divisors[] = {1, 2, 5, 8, 10, 20, 25, 64, 100, 125, 400, 1000, 2500, 8000, 15625, 100000, 1000000};
+    int32_t k = divisors[below(random, sizeof divisors / sizeof divisors[0])], d2 = 1000000 / k;
+    int32_t greatest = (int32_t)sqrt(MAX_DECIMAL_ENTRY / k), half = (int32_t)sqrt(MAX_DECIMAL_ENTRY / 2 / k);
+    int32_t farthest = (int32_t)sqrt(MAX_DECIMAL_D2 / d2);
+    int32_t a = from_to(random, 1, small ? 8 : greatest), f = from_to(random, 1, small ? 8 : half);
+    int32_t b = one_in(random, 4) ? 0 : small ? from_to(random, -8, 8) : from_to(random, -half, half);
+    int32_t t = from_to(random, 1, small && farthest > 8 ? 8 : farthest);
+    return (struct thousandths){k * a * a, k * a * b, k * (b * b + f * f), d2 * t * t};
+}
+
+/* A size of any order. */
+static int32_t any_size(struct random *random, int32_t greatest) {
+    static const int32_t parts[] = {1, 10, 1000, 1000000};
+    int32_t most = greatest / parts[below(random, 4)];
+    return from_to(random, 1, most);
+}
+
+/* Any numbers that make a good matrix; c12 is often as large as it may be. */
+static struct thousandths any_thousandths(struct random *random) {
+    int32_t c11 = any_size(random, MAX_DECIMAL_ENTRY), c22 = any_size(random, MAX_DECIMAL_ENTRY);
+    int64_t product = (int64_t)c11 * c22;
+    int32_t most = (int32_t)sqrt((double)product);
+    while ((int64_t)most * most >= product) most--;
+    int32_t c12 = one_in(random, 3) ? most * (one_in(random, 2) ? 1 : -1) : from_to(random, -most, most);
+    return (struct thousandths){c11, c12, c22, any_size(random, MAX_DECIMAL_D2)};
+}
+
+static void random_decimal_ellipse(struct random *random, struct plan *plan, int n) {
+    struct thousandths words = rim_thousandths(random, plan->reach < FULL_REACH);
+    if (one_in(random, 3)) words = any_thousandths(random);
+    if (one_in(random, 8)) {
+        words = (struct thousandths){MAX_DECIMAL_ENTRY, (MAX_DECIMAL_ENTRY - 1) * from_to(random, -1, 1),
+                                     MAX_DECIMAL_ENTRY, MAX_DECIMAL_D2};
+    }
+    random_plane(random, plan, n);
+    add_word(plan, near_value(random, plan));
+    add_word(plan, near_value(random, plan));
+    add_word(plan, words.c11);
+    add_word(plan, words.c12);
+    add_word(plan, words.c22);
+    add_word(plan, words.d2);
+}
+
 /* Operands among the regions of the steps before. */
 static void random_operands(struct random *random, struct plan *plan, int count) {
     for (int i = 0; i < count; i++) {
@@ -214,9 +285,10 @@ static void random_operands(struct random *random, struct plan *plan, int count)
 
 static void random_step(struct random *random, struct plan *plan, int n, int32_t region, bool room) {
     bool first = plan->steps == 0;
-    enum gate_kind kind = (enum gate_kind)from_to(random, GATE_BOX, GATE_NOT);
-    bool needs_two = kind == GATE_POLYGON || kind == GATE_ELLIPSE;
-    if (!room || (needs_two && n < 2) || (first && kind >= GATE_AND)) kind = GATE_BOX;
+    enum gate_kind kind = (enum gate_kind)from_to(random, GATE_BOX, GATE_DECIMAL_ELLIPSE);
+    bool needs_two = kind == GATE_POLYGON || kind == GATE_ELLIPSE || kind == GATE_DECIMAL_ELLIPSE;
+    bool needs_other = kind == GATE_AND || kind == GATE_OR || kind == GATE_NOT;
+    if (!room || (needs_two && n < 2) || (needs_other && first)) kind = GATE_BOX;
     int32_t parent = GATE_NO_PARENT;
     if (!first && one_in(random, 2)) parent = plan->words[plan->step_at[below(random, plan->steps)] + 1];
     begin_step(plan, kind, region, parent);
@@ -224,6 +296,7 @@ static void random_step(struct random *random, struct plan *plan, int n, int32_t
     case GATE_BOX: random_box(random, plan, n); break;
     case GATE_POLYGON: random_polygon(random, plan, n); break;
     case GATE_ELLIPSE: random_ellipse(random, plan, n); break;
+    case GATE_DECIMAL_ELLIPSE: random_decimal_ellipse(random, plan, n); break;
     case GATE_NOT: random_operands(random, plan, 1); break;
     default:
         random_operands(random, plan, one_in(random, 10) ? from_to(random, 60, MAX_OPERANDS) : from_to(random, 2, 5));
@@ -251,8 +324,9 @@ void random_plan(struct random *random, struct plan *plan) {
 /* Numbers at which some rule of form changes its answer. */
 static int32_t edge_word(struct random *random) {
     static const int32_t edges[] = {
-        INT32_MIN, -16777217, -16777216, -65537, -65536, -65535, -2, -1, 0, 1, 2, 3, 4, 5, 6, 7, 8, 9, 24, 27, 63, 64,
-        65, 127, 128, 129, 514, 516, 4096, 4097, 65535, 65536, 65537, 16777216, 16777217, INT32_MAX,
+        INT32_MIN, -2000000001, -2000000000, -16777217, -16777216, -65537, -65536, -65535, -2, -1, 0, 1, 2, 3, 4, 5, 6,
+        7, 8, 9, 24, 27, 63, 64, 65, 127, 128, 129, 514, 516, 4096, 4097, 65535, 65536, 65537, 4096000, 4096001,
+        16777216, 16777217, 2000000000, 2000000001, INT32_MAX,
     };
     return edges[below(random, sizeof edges / sizeof edges[0])];
 }
@@ -290,10 +364,11 @@ static void change_matrix(struct random *random, struct plan *plan) {
     if (plan->steps == 0) return;
     size_t at = plan->step_at[below(random, plan->steps)];
     int32_t *body = plan->words + at + 4;
-    if (plan->words[at] != GATE_ELLIPSE || at + 12 > plan->len || body[4] <= 0) return;
+    bool decimal = plan->words[at] == GATE_DECIMAL_ELLIPSE, ellipse = decimal || plan->words[at] == GATE_ELLIPSE;
+    if (!ellipse || at + 12 > plan->len || body[4] <= 0) return;
     if (one_in(random, 2)) {
         int64_t c22 = (int64_t)body[5] * body[5] / body[4];
-        if (c22 <= MAX_ENTRY) body[6] = (int32_t)c22;
+        if (c22 <= (decimal ? MAX_DECIMAL_ENTRY : MAX_ENTRY)) body[6] = (int32_t)c22;
     } else {
         for (int i = 4; i < 7; i++) body[i] = body[i] == INT32_MIN ? INT32_MIN : -body[i];
     }
@@ -345,13 +420,21 @@ static void set_on_edge(struct random *random, const int32_t *body, size_t lengt
     event[body[1]] = from[1] + (parts == 0 ? 0 : dy / parts * part);
 }
 
-/* One of the points that random_ellipse names. */
-static void set_on_rim(struct random *random, const int32_t *body, int32_t *event) {
-    int32_t a = (int32_t)sqrt(body[4]), b = body[5] / a, f = (int32_t)sqrt((double)body[6] - (double)b * b);
-    int32_t d = (int32_t)sqrt(body[7]), sign = one_in(random, 2) ? 1 : -1;
-    bool upright = one_in(random, 2);
-    event[body[0]] = body[2] + (upright ? 0 : sign * d * a);
-    event[body[1]] = body[3] + sign * d * (upright ? f : b);
+/*
+ * One of the points that random_ellipse and rim_thousandths name, where the ellipse is theirs; else one near the rim. From
+ * the mean they are dx = sqrt(c11 D^2), dy = c12 dx / c11 and 0, sqrt(D^2 (c11 c22 - c12^2) / c11), and those opposite.
+ * `scale` is 1000 where the numbers are in thousandths, else 1.
+ */
+static void set_on_rim(struct random *random, const int32_t *body, int32_t scale, int32_t *event) {
+    int64_t c11 = body[4], c12 = body[5], c22 = body[6], d2 = body[7];
+    int32_t dx = (int32_t)(sqrt((double)(c11 * d2)) / scale), dy = (int32_t)(c12 * dx / c11);
+    if (one_in(random, 2)) {
+        dx = 0;
+        dy = (int32_t)(sqrt((double)((c11 * c22 - c12 * c12) / c11 * d2)) / scale);
+    }
+    int32_t sign = one_in(random, 2) ? 1 : -1;
+    event[body[0]] = body[2] + sign * dx;
+    event[body[1]] = body[3] + sign * dy;
 }
 
 /* Puts the event on a bound, an edge or the rim of some step; false when that step has none. */
@@ -360,7 +443,8 @@ static bool aim(struct random *random, const struct plan *plan, int32_t *event) 
     switch (step[0]) {
     case GATE_BOX: set_on_bound(random, body, (size_t)step[3], event); return true;
     case GATE_POLYGON: set_on_edge(random, body, (size_t)step[3], event); return true;
-    case GATE_ELLIPSE: set_on_rim(random, body, event); return true;
+    case GATE_ELLIPSE: set_on_rim(random, body, 1, event); return true;
+    case GATE_DECIMAL_ELLIPSE: set_on_rim(random, body, 1000, event); return true;
     default: return false;
     }
 }
