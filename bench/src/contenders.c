@@ -26,9 +26,11 @@ static struct contender *add_contender(const char *name, enum contender_kind kin
     return contender;
 }
 
+/* An earlier counter may not know decimal ellipses. */
 void add_counter(char *argument) {
     struct library library = load_library(argument);
-    add_contender(library.name, COUNTER, COUNTS + CALLS)->library = library;
+    unsigned unknown = library.last_kind < GATE_DECIMAL_ELLIPSE ? DECIMAL_ELLIPSES : 0;
+    add_contender(library.name, COUNTER, COUNTS + CALLS - unknown)->library = library;
 }
 
 void add_boost(const char *file) {

@@ -11,11 +11,12 @@ enum group {
     COMBINATIONS = 4,
     POLYGONS = 8,
     ELLIPSES = 16,
-    TABLES = 32, /* of examples/ */
-    CALLS = 64,  /* of gate_check and gate_judge; all others are counts */
+    DECIMAL_ELLIPSES = 32,
+    TABLES = 64, /* of examples/ */
+    CALLS = 128, /* of gate_check and gate_judge; all others are counts */
 
     STEPS = BOXES + CHAINS + COMBINATIONS,
-    COUNTS = STEPS + POLYGONS + ELLIPSES + TABLES
+    COUNTS = STEPS + POLYGONS + ELLIPSES + DECIMAL_ELLIPSES + TABLES
 };
 
 struct load {

@@ -65,6 +65,7 @@ int main(void) {
         case 1: combinations_load(&plan, MAX_N); break;
         case 2: polygon_load(&plan, 256); break;
         case 3: ellipses_load(&plan, 8); break;
+        case 4: decimal_ellipses_load(&plan, 8); break;
         default: random_plan(&random, &plan);
         }
         int n = plan.words[0];

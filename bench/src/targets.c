@@ -23,6 +23,7 @@ static const struct target {
     {"polygons", POLYGONS, GREATEST, "Java 2D", 0.80},
     {"polygons", POLYGONS, GREATEST, "before", 1.00},
     {"ellipses", ELLIPSES, GREATEST, "gcc", 0.70},
+    {"decimal ellipses", DECIMAL_ELLIPSES, GREATEST, "gcc", 2.00},
     {"tables of examples/", TABLES, GREATEST, "gcc", 1.00},
     {"tables of examples/", TABLES, GREATEST, "Rust", 1.00},
 };

@@ -28,6 +28,8 @@ static const struct shape shapes[] = {
     {POLYGONS, "256 vertices", 2, 256},
     {ELLIPSES, "1 ellipse", 2, 1},
     {ELLIPSES, "8 ellipses", 2, 8},
+    {DECIMAL_ELLIPSES, "1 decimal ellipse", 2, 1},
+    {DECIMAL_ELLIPSES, "8 decimal ellipses", 2, 8},
 };
 enum { SHAPES = sizeof shapes / sizeof shapes[0] };
 
@@ -135,7 +137,12 @@ static void even_tables(size_t count) {
     static const struct {
         const char *title;
         unsigned groups;
-    } parts[] = {{"Boxes and combinations", STEPS}, {"Polygons", POLYGONS}, {"Ellipses", ELLIPSES}};
+    } parts[] = {
+        {"Boxes and combinations", STEPS},
+        {"Polygons", POLYGONS},
+        {"Ellipses", ELLIPSES},
+        {"Decimal ellipses", DECIMAL_ELLIPSES},
+    };
     for (size_t part = 0; part < sizeof parts / sizeof parts[0]; part++) {
         print_heading(parts[part].title, "event", parts[part].groups);
         for (int i = 0; i < SHAPES; i++) {
