@@ -154,6 +154,27 @@ static void test_shapes(void) {
     expect_position("level ellipse holds what is just inside its rim", level, LENGTH(level), 54772, 0, INSIDE);
     expect_position("level ellipse does not hold what is just outside", level, LENGTH(level), 54773, 0, OUTSIDE);
 
+    static const int32_t decimal[] = {2, 1, GATE_DECIMAL_ELLIPSE, 0, -1, 8, 0, 1, 0, 0, 125, 150, 225, 200000};
+    expect_position("decimal ellipse holds its mean", decimal, LENGTH(decimal), 0, 0, INSIDE);
+    expect_position("decimal ellipse holds its rim", decimal, LENGTH(decimal), 5, 6, ON_OUTLINE);
+    expect_position("decimal ellipse holds its rim above the mean", decimal, LENGTH(decimal), 0, 3, ON_OUTLINE);
+    expect_position("decimal ellipse holds what is next to its rim", decimal, LENGTH(decimal), 4, 5, INSIDE);
+    expect_position("decimal ellipse ends at its rim", decimal, LENGTH(decimal), 6, 6, OUTSIDE);
+
+    static const int32_t wide_decimal[] = {2, 1, GATE_DECIMAL_ELLIPSE, 0, -1, 8, 0, 1, -65536, -65536,
+                                           2000000000, 0, 2000000000, 2048000};
+    expect_position("wide decimal ellipse holds its rim", wide_decimal, LENGTH(wide_decimal), -27136, -14336, ON_OUTLINE);
+    expect_position("wide decimal ellipse holds what is next to its rim", wide_decimal, LENGTH(wide_decimal), -27137, -14336, INSIDE);
+    expect_position("wide decimal ellipse ends at its rim", wide_decimal, LENGTH(wide_decimal), -27136, -14335, OUTSIDE);
+    expect_position("wide decimal ellipse, farthest event", wide_decimal, LENGTH(wide_decimal), 65535, 65535, OUTSIDE);
+
+    static const int32_t flat_decimal[] = {2, 1, GATE_DECIMAL_ELLIPSE, 0, -1, 8, 0, 1, -65536, -65536,
+                                           2000000000, 1999999999, 2000000000, 4096000};
+    expect_position("flat decimal ellipse holds its end", flat_decimal, LENGTH(flat_decimal), 24973, 24973, INSIDE);
+    expect_position("flat decimal ellipse ends", flat_decimal, LENGTH(flat_decimal), 24974, 24974, OUTSIDE);
+    expect_position("flat decimal ellipse holds what is beside its axis", flat_decimal, LENGTH(flat_decimal), 14464, 14465, INSIDE);
+    expect_position("flat decimal ellipse is narrower at its end", flat_decimal, LENGTH(flat_decimal), 24464, 24465, OUTSIDE);
+
     static const int32_t either[] = {2, 3, GATE_BOX, 1, -1, 3, 0, 0, 10, GATE_BOX, 2, -1, 3, 1, 0, 10,
                                      GATE_OR, 0, -1, 2, 2 * 1, 2 * 2 + 1};
     expect_position("or by its first operand", either, LENGTH(either), 5, 5, INSIDE);
@@ -267,7 +288,7 @@ static const struct form_case malformed[] = {
     {"-1 steps", 1, 2, {2, -1}},
     {"words run out before a step", 2, 2, {2, 1}},
     {"kind 0", 2, 3, {2, 1, 0}},
-    {"kind 7", 2, 7, {2, 1, 7, 0, -1, 1, 0}},
+    {"kind 8", 2, 7, {2, 1, 8, 0, -1, 1, 0}},
     {"words run out in a header", 3, 3, {2, 1, 1}},
     {"region not below the step count", 3, 9, {2, 1, 1, 1, -1, 3, 0, 0, 1}},
     {"region set twice", 10, 16, {2, 2, 1, 0, -1, 3, 0, 0, 1, 1, 0, -1, 3, 0, 0, 1}},
@@ -299,6 +320,19 @@ static const struct form_case malformed[] = {
     {"entry off the range before the matrix", 11, 14, {2, 1, 3, 0, -1, 8, 0, 1, 0, 0, 0, 16777217, 9, 1}},
     {"D^2 is 0", 13, 14, {2, 1, 3, 0, -1, 8, 0, 1, 0, 0, 5, 6, 9, 0}},
     {"D^2 is 4097", 13, 14, {2, 1, 3, 0, -1, 8, 0, 1, 0, 0, 5, 6, 9, 4097}},
+    {"decimal ellipse of 7 words", 5, 13, {2, 1, 7, 0, -1, 7, 0, 1, 0, 0, 5, 6, 9}},
+    {"decimal ellipse with a dimension twice", 7, 14, {2, 1, 7, 0, -1, 8, 1, 1, 0, 0, 5, 6, 9, 1}},
+    {"mean of a decimal ellipse off the range", 8, 14, {2, 1, 7, 0, -1, 8, 0, 1, 65536, 0, 5, 6, 9, 1}},
+    {"decimal matrix 4, 6, 9", 10, 14, {2, 1, 7, 0, -1, 8, 0, 1, 0, 0, 4, 6, 9, 1}},
+    {"decimal matrix -5, 6, -9", 10, 14, {2, 1, 7, 0, -1, 8, 0, 1, 0, 0, -5, 6, -9, 1}},
+    {"greatest decimal matrix of determinant 0", 10, 14,
+     {2, 1, 7, 0, -1, 8, 0, 1, 0, 0, 2000000000, -2000000000, 2000000000, 1}},
+    {"bad decimal matrix before a bad D^2", 10, 14, {2, 1, 7, 0, -1, 8, 0, 1, 0, 0, 4, 6, 9, 0}},
+    {"bad decimal matrix in a plan cut off", 10, 13, {2, 1, 7, 0, -1, 8, 0, 1, 0, 0, 4, 6, 9}},
+    {"decimal entry above the range before the matrix", 12, 14, {2, 1, 7, 0, -1, 8, 0, 1, 0, 0, 0, 6, 2000000001, 1}},
+    {"decimal entry below the range", 11, 14, {2, 1, 7, 0, -1, 8, 0, 1, 0, 0, 5, -2000000001, 9, 1}},
+    {"decimal D^2 is 0", 13, 14, {2, 1, 7, 0, -1, 8, 0, 1, 0, 0, 5, 6, 9, 0}},
+    {"decimal D^2 is 4096001", 13, 14, {2, 1, 7, 0, -1, 8, 0, 1, 0, 0, 5, 6, 9, 4096001}},
     {"and of 64 operands", 5, 6, {2, 1, 4, 0, -1, 64}},
     {"entry below the range", 10, 11, {2, 1, 3, 0, -1, 8, 0, 1, 0, 0, -16777217}},
     {"and of one operand", 12, 14, {2, 2, 1, 0, -1, 3, 0, 0, 1, 4, 1, -1, 1, 0}},
@@ -319,6 +353,8 @@ static const struct form_case good[] = {
     {"vertices at the ends", 0, 14, {2, 1, 2, 0, -1, 8, 1, 0, -65536, 65535, 65535, 65535, 0, -65536}},
     {"matrix 5, 6, 9", 0, 14, {2, 1, 3, 0, -1, 8, 0, 1, 0, 0, 5, 6, 9, 1}},
     {"greatest matrix", 0, 14, {2, 1, 3, 0, -1, 8, 0, 1, 0, 0, 16777216, -16777215, 16777216, 4096}},
+    {"decimal matrix 5, 6, 9", 0, 14, {2, 1, 7, 0, -1, 8, 0, 1, 0, 0, 5, 6, 9, 1}},
+    {"greatest decimal matrix", 0, 14, {2, 1, 7, 0, -1, 8, 0, 1, 0, 0, 2000000000, -1999999999, 2000000000, 4096000}},
 };
 
 static void test_form(void) {
@@ -442,9 +478,45 @@ static void test_compiling(void) {
     expect_compiled("circle", "dims\tA\nnot\tIn\t-\tX\nnot\tX\t-\tY\nnot\tY\t-\tX\n", GATE_MAX_WORDS, 16, 3, NULL, 0, 0);
 }
 
+/* Lines `ellip` with a point in the entries or in D^2. */
+static void test_decimals(void) {
+    static const struct {
+        const char *what, *fields; /* c11, c12, c22, D^2 */
+        uint64_t refusal;
+        int32_t kind, words[4];
+    } cases[] = {
+        {"an ellipse with decimals", "1134.5\t-0.5\t899.125\t4", 0, GATE_DECIMAL_ELLIPSE, {1134500, -500, 899125, 4000}},
+        {"zeros at the end", "1134.50\t-0.500\t899.125\t4.0", 0, GATE_DECIMAL_ELLIPSE, {1134500, -500, 899125, 4000}},
+        {"a point in D^2 alone", "5\t6\t9\t4.0", 0, GATE_DECIMAL_ELLIPSE, {5000, 6000, 9000, 4000}},
+        {"greatest with decimals", "2000000\t-1999999.999\t2000000.0\t4096", 0, GATE_DECIMAL_ELLIPSE,
+         {2000000000, -1999999999, 2000000000, 4096000}},
+        {"least with decimals", "0.001\t0.0\t0.001\t0.001", 0, GATE_DECIMAL_ELLIPSE, {1, 0, 1, 1}},
+        {"no point", "2000001\t0\t9\t4", 0, GATE_ELLIPSE, {2000001, 0, 9, 4}},
+        {"minus zero", "5\t-0.000\t9\t4", 7, 0, {0}},
+        {"four decimals", "5.0000\t6\t9\t4", 7, 0, {0}},
+        {"nothing behind the point", "5.\t6\t9\t4", 7, 0, {0}},
+        {"nothing before the point", ".5\t0\t9\t4", 7, 0, {0}},
+        {"a whole entry beyond the range of a line with decimals", "2000001\t0\t9\t4.0", 8, 0, {0}},
+        {"an entry of 2000000.001", "5\t0\t2000000.001\t4", 8, 0, {0}},
+        {"D^2 of 0.000", "5\t6\t9\t0.000", 8, 0, {0}},
+        {"D^2 of 4096.001", "5\t6\t9\t4096.001", 8, 0, {0}},
+        {"a bad matrix with decimals", "0.4\t0.6\t0.9\t4", 11, 0, {0}},
+    };
+    for (size_t i = 0; i < LENGTH(cases); i++) {
+        const int32_t *words = cases[i].words;
+        const int32_t plan[] = {2, 1, cases[i].kind, 0, -1, 8, 0, 1, 7, -8, words[0], words[1], words[2], words[3]};
+        char table[128];
+        snprintf(table, sizeof table, "dims\tA\tB\nellip\tE\t-\tA\tB\t7\t-8\t%s\n", cases[i].fields);
+        if (cases[i].refusal == 0) expect_compiled(cases[i].what, table, GATE_MAX_WORDS, 0, 0, plan, LENGTH(plan), 1);
+        else expect_compiled(cases[i].what, table, GATE_MAX_WORDS, cases[i].refusal, 2, NULL, 0, 0);
+    }
+    expect_compiled("a mean with decimals", "dims\tA\tB\nellip\tE\t-\tA\tB\t7.0\t-8\t5\t6\t9\t4\n", GATE_MAX_WORDS, 7, 2, NULL, 0, 0);
+}
+
 int main(void) {
     test_example();
     test_compiling();
+    test_decimals();
     test_shapes();
     test_outlines();
     test_all_regions();
