@@ -29,6 +29,10 @@ import gates
 MOST = 5000         # numbers of a list in a question
 ROOM = 4096         # words of the slice in a question `compile`
 
+# An ellipse with decimals whose rule passes 64 bits; events on its rim and beside it.
+DECIMAL = (b'dims\tA\tB\nellip\tE\t-\tA\tB\t0\t0\t1600800.1\t800200\t1300000\t2250\nevents\n'
+           b'60015\t30000\n60016\t30000\n60014\t30000\n0\t-45000\n0\t-45001\n65535\t-65536\n')
+
 
 # ---------------------------------------------------------------- seeds
 
@@ -66,7 +70,7 @@ def seeds(options):
                 plans.append((plan, numbers[2 + numbers[0]:]))
     # The longest input, and one byte more.
     events = b'dims\tA\nevents\n' + b'5\n' * 32761
-    inputs += [events, events[:-1] + b'5\n', b'x' * 32767 + b'\n']
+    inputs += [events, events[:-1] + b'5\n', b'x' * 32767 + b'\n', DECIMAL]
     for data in inputs:
         table, lines, _, _ = gates.part_input(data)
         number, _, words, _ = gates.compile_table(table, ROOM)

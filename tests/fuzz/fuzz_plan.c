@@ -15,7 +15,7 @@ int LLVMFuzzerTestOneInput(const uint8_t *data, size_t size)
 
 static const int32_t WORDS[] = {
     -1, 0, 1, 2, 3, 4, 5, 6, 7, 8, 9, 24, 25, 27, 62, 63, 64, 65, 127, 128, 514, 516, 65535, 65536, -65535, -65536, -65537, 16777216,
-    -16777216, 16777217, 4096, 4097, INT32_MIN, INT32_MAX,
+    -16777216, 16777217, 4096, 4097, 2000000000, -2000000000, 2000000001, 4096000, 4096001, INT32_MIN, INT32_MAX,
 };
 
 size_t LLVMFuzzerCustomMutator(uint8_t *data, size_t size, size_t most, unsigned seed)

@@ -60,7 +60,8 @@ static size_t put(uint8_t *data, size_t size, size_t most, struct part part, con
 static const char *const WORDS[] = {
     "-", "*", "0", "1", "2", "3", "-1", "65535", "65536", "-65535", "-65536", "-65537", "16777216", "-16777216", "16777217", "4096",
     "4097", "2147483648", "-0", "01", "", "A", "B", "C", "R", "Q", "!R", "rect", "poly", "ellip", "quad", "and", "or", "not", "dims",
-    "events", "Abcdefghijklmnop", "Abcdefghijklmnopq",
+    "events", "Abcdefghijklmnop", "Abcdefghijklmnopq", "0.001", "0.0", "-0.5", "-0.0", "1134.5", "2000000.000", "2000000.001", "2000000", "2000001",
+    "4096.0", "4096.001", "1.2345", "1.", ".5",
 };
 
 size_t LLVMFuzzerCustomMutator(uint8_t *data, size_t size, size_t most, unsigned seed)
