@@ -86,7 +86,7 @@ static wide decimal_right_side(const int32_t *body) {
     return (wide)(c11 * c22 - c12 * c12) * body[D2];
 }
 
-/* Inlined it would make counting boxes slower by up to a quarter. */
+/* Inlined by gcc it would make counting boxes slower, by up to 30 %. */
 __attribute__((noinline)) static bool in_decimal_ellipse(const int32_t *body, const int32_t *event) {
     return decimal_left_side(body, event) <= decimal_right_side(body);
 }
