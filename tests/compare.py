@@ -47,8 +47,8 @@ most 5,000 numbers, a slice at most 9,000 words and a line at most 100,000 bytes
                                        hexadecimal digits each; `-` stands for an empty table
         -> number place words regions beyond w1 .. wWORDS
 
-For `compile` the executable lends a slice of S words, each holding 77777777 (which no
-word of a plan may be).  `words` and `regions` are what compiling reports (0 0 when
+For `compile` the executable lends a slice of S words, each holding 77777777 (which a plan
+has only for 77777.777 in an ellipse).  `words` and `regions` are what compiling reports (0 0 when
 refused), the words that follow are the first `words` words of the slice afterwards, and
 `beyond` is how many of the slice's other words no longer hold 77777777: always 0.
 """
@@ -269,7 +269,7 @@ class Comparison:
         if refusal(expected) != 0:
             return
         for fields in table_fields(case.data):
-            self.kinds[fields[0]] += 1
+            self.kinds[fields[0] + b' with decimals' * bool(gates.read_gate(fields).decimals)] += 1
         good = quadrants_add_up(case.data, actual)
         if good is not None:
             self.sums += 1

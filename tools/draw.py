@@ -32,7 +32,6 @@ import collections
 import math
 import os
 import sys
-from fractions import Fraction
 from xml.sax.saxutils import escape, quoteattr
 
 sys.path.insert(0, os.path.join(os.path.dirname(os.path.abspath(__file__)), '..', 'tests', 'reference'))
@@ -96,11 +95,6 @@ def number(field):
     return gates.number_value(field)
 
 
-def decimal(field):
-    """The exact value of a number of an ellipse; its entries and D² may have decimals."""
-    return Fraction(field.decode()) if b'.' in field else number(field)
-
-
 def bounds_of(gate):
     """The dimensions that a box bounds; a triple with two `*` bounds nothing."""
     found = {}
@@ -141,7 +135,7 @@ def regions_of(given):
             values = [number(field) for field in gate.vertices]
             shapes = [(gate.name, ('poly', gate.dimensions, list(zip(values[0::2], values[1::2]))))]
         elif kind == 'ellip':
-            shapes = [(gate.name, ('ellip', gate.dimensions, [decimal(field) for field in gate.ellipse]))]
+            shapes = [(gate.name, ('ellip', gate.dimensions, gates.ellipse_numbers(gate)))]
         else:
             shapes = [(gate.name, None)]
         for name, shape in shapes:

@@ -1,8 +1,8 @@
 """The gate counter, written apart from the main program and straight from papers 01 and 02.
 
 Nothing here is shared with the main program, so that a misreading or a slip in one
-of the two shows as a difference.  All numbers are Python's whole numbers: nothing
-overflows and nothing is rounded.  Speed and cleverness are left out on purpose.
+of the two shows as a difference.  All numbers are Python's whole numbers and fractions:
+nothing overflows and nothing is rounded.  Speed and cleverness are left out on purpose.
 
 Names and table text are bytes throughout, since a table is bytes.
 
@@ -20,6 +20,7 @@ of 64 bits, bit r for region r: the members, and those that are on the region's 
 
 import itertools
 import re
+from fractions import Fraction
 
 TABLE_BYTES = 32768
 INPUT_BYTES = 65536
@@ -39,14 +40,22 @@ DIVIDER_RANGE = (-65535, 65535)
 ENTRY_RANGE = (-ENTRY, ENTRY)
 D2_RANGE = (1, WIDEST)
 
+# 02 b: those of an `ellip` line with decimals and of the words of kind 7, in thousandths.
+DECIMAL_ENTRY_RANGE = (-2000000000, 2000000000)
+DECIMAL_D2_RANGE = (1, 4096000)
+
 KINDS = (b'rect', b'poly', b'ellip', b'quad', b'and', b'or', b'not')
-BOX, POLYGON, ELLIPSE, AND, OR, NOT = 1, 2, 3, 4, 5, 6
+BOX, POLYGON, ELLIPSE, AND, OR, NOT, DECIMAL_ELLIPSE = 1, 2, 3, 4, 5, 6, 7
+STEP_KINDS = (BOX, POLYGON, ELLIPSE, AND, OR, NOT, DECIMAL_ELLIPSE)
+ELLIPSES = (ELLIPSE, DECIMAL_ELLIPSE)
+COMBINATIONS = (AND, OR, NOT)
 
 # 02 a: what the polygon test and the ellipse test answer.
 OUTSIDE, INSIDE, ON_OUTLINE = 'outside', 'inside', 'on the outline'
 
 NAME = re.compile(rb'[A-Za-z][A-Za-z0-9_-]{0,15}')
 NUMBER = re.compile(rb'0|-?[1-9][0-9]*')
+DECIMAL = re.compile(rb'-?(0|[1-9][0-9]*)[.][0-9]{1,3}')
 
 
 # ---------------------------------------------------------------- names and numbers
@@ -83,6 +92,30 @@ def number_value(field):
     return -value if field[:1] == b'-' else value
 
 
+def is_decimal(field):
+    """02 b, the form alone: a number, or one with a point and one to three decimals; minus zero is none."""
+    if is_number(field):
+        return True
+    minus_zero = field[:1] == b'-' and field.strip(b'-0.') == b''
+    return DECIMAL.fullmatch(field) is not None and not minus_zero
+
+
+def has_decimals(fields):
+    """Whether one of c11, c12, c22, D2 carries a point: then the whole line is one with decimals."""
+    return any(b'.' in field for field in fields)
+
+
+def exact_value(field):
+    """The exact value of a number with or without decimals, where it is in range."""
+    return Fraction(field.decode())
+
+
+def thousandths(field):
+    """The thousandths of a well-formed number with or without decimals, however long."""
+    before, _, after = field.partition(b'.')
+    return number_value(before + after.ljust(3, b'0'))
+
+
 def within(value, limits):
     return limits[0] <= value <= limits[1]
 
@@ -98,7 +131,8 @@ class Gate:
         self.name = name
         self.parent = parent
         self.dimensions = []    # every field that names a dimension, from the left
-        self.numbers = []       # (field, range, whether `*` may stand there)
+        self.numbers = []       # whole ones: (field, range, whether `*` may stand there)
+        self.decimals = []      # c11, c12, c22, D2 of a line with decimals: (field, range in thousandths)
         self.bounds = []        # rect: (dimension, min, max)
         self.vertices = []      # poly: x, y, x, y, ..
         self.ellipse = []       # ellip: the two means, c11, c12, c22, D2
@@ -156,8 +190,12 @@ def read_gate(fields):
             return None
         gate.dimensions = rest[:2]
         gate.ellipse = rest[2:]
-        limits = [POINT_RANGE, POINT_RANGE, ENTRY_RANGE, ENTRY_RANGE, ENTRY_RANGE, D2_RANGE]
-        gate.numbers = [(field, limit, False) for field, limit in zip(gate.ellipse, limits)]
+        means, others = rest[2:4], rest[4:]
+        gate.numbers = [(field, POINT_RANGE, False) for field in means]
+        if has_decimals(others):
+            gate.decimals = list(zip(others, [DECIMAL_ENTRY_RANGE] * 3 + [DECIMAL_D2_RANGE]))
+        else:
+            gate.numbers += [(field, limits, False) for field, limits in zip(others, [ENTRY_RANGE] * 3 + [D2_RANGE])]
 
     elif kind == b'quad':
         if not rest:
@@ -208,13 +246,13 @@ def names_good(gate, head):
 
 
 def forms_good(gate, head):
-    return all(is_number(field) or (star and field == b'*')
-               for field, _, star in gate.numbers)
+    return (all(is_number(field) or (star and field == b'*') for field, _, star in gate.numbers)
+            and all(is_decimal(field) for field, _ in gate.decimals))
 
 
 def ranges_good(gate, head):
-    return all(field == b'*' or within(number_value(field), limits)
-               for field, limits, _ in gate.numbers)
+    return (all(field == b'*' or within(number_value(field), limits) for field, limits, _ in gate.numbers)
+            and all(within(thousandths(field), limits) for field, limits in gate.decimals))
 
 
 def dimensions_good(gate, head):
@@ -238,10 +276,14 @@ def matrix_is_good(c11, c12, c22):
     return c11 > 0 and c11 * c22 > c12 * c12
 
 
+def ellipse_numbers(gate):
+    """The means, c11, c12, c22 and D2 of an `ellip` line whose ranges are good, as the line says them."""
+    value = exact_value if gate.decimals else number_value
+    return [value(field) for field in gate.ellipse]
+
+
 def matrix_good(gate, head):
-    if gate.kind != b'ellip':
-        return True
-    return matrix_is_good(*[number_value(field) for field in gate.ellipse[2:5]])
+    return gate.kind != b'ellip' or matrix_is_good(*ellipse_numbers(gate)[2:5])
 
 
 def interval_number(values, value):
@@ -413,9 +455,10 @@ def region_steps(head, gates):
             body = [head.index(dimension) for dimension in gate.dimensions]
             body += [number_value(field) for field in gate.vertices]
         elif gate.kind == b'ellip':
-            kind = ELLIPSE
+            kind = DECIMAL_ELLIPSE if gate.decimals else ELLIPSE
             body = [head.index(dimension) for dimension in gate.dimensions]
-            body += [number_value(field) for field in gate.ellipse]
+            body += [number_value(field) for field, _, _ in gate.numbers]
+            body += [thousandths(field) for field, _ in gate.decimals]
         else:
             kind = {b'and': AND, b'or': OR, b'not': NOT}[gate.kind]
             body = [2 * numbers[operand_name(operand)] + (operand[:1] == b'!')
@@ -469,11 +512,19 @@ def length_good(kind, length):
         return 3 <= length <= 24 and length % 3 == 0
     if kind == POLYGON:
         return 8 <= length <= 514 and length % 2 == 0
-    if kind == ELLIPSE:
+    if kind in ELLIPSES:
         return length == 8
     if kind == NOT:
         return length == 1
     return 2 <= length <= 63
+
+
+def ellipse_range(kind, at):
+    """The range of word `at` of an ellipse's body, behind the dimensions."""
+    if at < 4:
+        return POINT_RANGE
+    entry, d2 = (ENTRY_RANGE, D2_RANGE) if kind == ELLIPSE else (DECIMAL_ENTRY_RANGE, DECIMAL_D2_RANGE)
+    return entry if at < 7 else d2
 
 
 def body_word_good(kind, body, at, n, earlier):
@@ -485,15 +536,11 @@ def body_word_good(kind, body, at, n, earlier):
         if at % 3 == 1:
             return within(word, MIN_RANGE)
         return within(word, MAX_RANGE) and body[at - 1] < word
-    if kind in (POLYGON, ELLIPSE) and at < 2:
+    if kind in COMBINATIONS:
+        return word >= 0 and word // 2 in earlier
+    if at < 2:
         return 0 <= word < n and word not in body[:at]
-    if kind == POLYGON:
-        return within(word, POINT_RANGE)
-    if kind == ELLIPSE:
-        if at < 4:
-            return within(word, POINT_RANGE)
-        return within(word, ENTRY_RANGE if at < 7 else D2_RANGE)
-    return word >= 0 and word // 2 in earlier
+    return within(word, POINT_RANGE if kind == POLYGON else ellipse_range(kind, at))
 
 
 def bad_body_word(kind, body, length, n, earlier):
@@ -506,7 +553,7 @@ def bad_body_word(kind, body, length, n, earlier):
         if at == len(body) or not body_word_good(kind, body, at, n, earlier):
             return at
         # c22 is the last word of the matrix; all three are there and in range now.
-        if kind == ELLIPSE and at == 6 and not matrix_is_good(*body[4:7]):
+        if kind in ELLIPSES and at == 6 and not matrix_is_good(*body[4:7]):
             return MATRIX_AT
     return None
 
@@ -523,7 +570,7 @@ def bad_word(words):
     at = 2
     for _ in range(steps):
         # In each of these lines the place is `end` itself when the word is missing.
-        if at == end or not BOX <= words[at] <= NOT:
+        if at == end or words[at] not in STEP_KINDS:
             return at
         kind = words[at]
         at += 1
@@ -597,6 +644,26 @@ def ellipse_holds(mean_x, mean_y, c11, c12, c22, d2, x, y):
     return ellipse_position(mean_x, mean_y, c11, c12, c22, d2, x, y) != OUTSIDE
 
 
+def decimal_ellipse_position(mean_x, mean_y, c11, c12, c22, d2, x, y):
+    """The same over words of kind 7, c11, c12, c22 and D2 in thousandths.
+
+    Both sides are multiplied by c11, which is above 0: the left one is then the square of c11 dy - c12 dx
+    and dx2 times the determinant.
+    """
+    dx, dy = x - mean_x, y - mean_y
+    determinant = c11 * c22 - c12 * c12
+    left = (c11 * dy - c12 * dx) ** 2 + determinant * dx ** 2
+    # Each product has two numbers in thousandths on the left and four on the right.
+    beyond = 1000 ** 2 * left - c11 * d2 * determinant
+    if beyond == 0:
+        return ON_OUTLINE
+    return INSIDE if beyond < 0 else OUTSIDE
+
+
+def decimal_ellipse_holds(mean_x, mean_y, c11, c12, c22, d2, x, y):
+    return decimal_ellipse_position(mean_x, mean_y, c11, c12, c22, d2, x, y) != OUTSIDE
+
+
 def is_spoilt(event):
     return any(not LOWEST <= value <= HIGHEST for value in event)
 
@@ -625,6 +692,8 @@ def shape_holds(kind, body, event, bits):
         return polygon_holds(body[2:], event[body[0]], event[body[1]])
     if kind == ELLIPSE:
         return ellipse_holds(*body[2:], event[body[0]], event[body[1]])
+    if kind == DECIMAL_ELLIPSE:
+        return decimal_ellipse_holds(*body[2:], event[body[0]], event[body[1]])
     if kind == AND:
         return all(operand_holds(word, bits) for word in body)
     if kind == OR:
@@ -648,6 +717,8 @@ def on_outline(kind, body, event):
         return polygon_position(body[2:], event[body[0]], event[body[1]]) == ON_OUTLINE
     if kind == ELLIPSE:
         return ellipse_position(*body[2:], event[body[0]], event[body[1]]) == ON_OUTLINE
+    if kind == DECIMAL_ELLIPSE:
+        return decimal_ellipse_position(*body[2:], event[body[0]], event[body[1]]) == ON_OUTLINE
     return False
 
 
@@ -730,7 +801,7 @@ def membership(table):
             return polygon_holds([number_value(field) for field in gate.vertices], x, y)
         if gate.kind == b'ellip':
             x, y = [value[dimension] for dimension in gate.dimensions]
-            return ellipse_holds(*[number_value(field) for field in gate.ellipse], x, y)
+            return ellipse_holds(*ellipse_numbers(gate), x, y)
         if gate.kind == b'quad':
             for (dimension, fields), representative in zip(gate.dividers, representatives):
                 cuts = [number_value(field) for field in fields]
@@ -784,7 +855,7 @@ def outlines(table):
         x, y = [value[dimension] for dimension in gate.dimensions]
         if gate.kind == b'poly':
             return polygon_position([number_value(field) for field in gate.vertices], x, y)
-        return ellipse_position(*[number_value(field) for field in gate.ellipse], x, y)
+        return ellipse_position(*ellipse_numbers(gate), x, y)
 
     def names_of(event):
         value = dict(zip(head, event))

@@ -13,6 +13,7 @@ the role of every field known, and are then damaged on purpose where damage is w
 
 import math
 import random
+from decimal import Decimal
 
 import gates
 
@@ -30,10 +31,26 @@ LIMITS = (-65536, -65535, -65534, -1, 0, 1, 65534, 65535)
 RANGES = {'min': (-65536, 65535), 'max': (-65535, 65536), 'vertex': (-65536, 65535),
           'mean': (-65536, 65535), 'representative': (-65536, 65535),
           'divider': (-65535, 65535), 'entry': (-16777216, 16777216), 'd2': (1, 4096)}
+# Those of a line with decimals, in thousandths.
+DECIMAL_RANGES = {'decimal entry': (-2000000000, 2000000000), 'decimal d2': (1, 4096000)}
 
 BAD_NUMBERS = [b'', b'-', b'-0', b'00', b'-01', b'01', b'+1', b' 1', b'1 ', b'1.5', b'1.0', b'1e3',
                b'--1', b'0x1', b'x', b'1\r', b'\x00', b'1\x00', b'\xef\xbc\x91', b'!1', b'1,000',
                b'9' * 40 + b'x', b'- 1', b'-00', b'1-', b'\xff', b'-*', b'**']
+# Bad also where a number may have decimals.
+BAD_DECIMALS = [field for field in BAD_NUMBERS if field not in (b'1.5', b'1.0')] + [
+    b'-0.0', b'-0.00', b'-0.000', b'-0.0000', b'.5', b'-.5', b'.0', b'5.', b'-5.', b'0.', b'.', b'-.', b'..', b'1.2345',
+    b'0.0000', b'1.0000', b'-0.0005', b'2000000.0000', b'00.5', b'-00.5', b'01.5', b'-01.5', b'+0.5', b'+.5', b'1.5e1', b'1e3.0', b'1.-5', b'1.+5',
+    b'1.5.2', b'1..5', b'..5', b'1.5 ', b' 1.5', b'1. 5', b'- 1.5', b'1,5', b'1.5\r', b'1.x', b'x.5', b'0x1.8', b'1.5-', b'--1.5', b'-+1.5',
+    b'1.5\x00', b'1.*', b'*.5', b'1_0.5', b'1.5f', b'inf', b'nan', b'1/2', b'1:5', b'1\xc2\xb75', b'\xef\xbc\x91.5', b'1.\xef\xbc\x95',
+    b'9' * 40 + b'.', b'9' * 40 + b'.1234', b'9' * 40 + b'.x', b'.' + b'9' * 40, b'1.' + b'9' * 40, b'0.' + b'0' * 40, b'-0.' + b'0' * 40,
+    b'0' * 40 + b'.5', b'-' + b'0' * 40 + b'.5', b'1.' + b'0' * 3000]
+# Off scale as c11, c12 or c22, and as D2; in thousandths some are a little more than a power of 2.
+OFF_ENTRIES = [b'2000000.001', b'-2000000.001', b'2000000.1', b'-2000000.10', b'2000001.0', b'-2000001.000', b'16777216.0', b'-16777216.5',
+               b'2147483.647', b'2147483.648', b'-2147483.648', b'4294967.296', b'4294967.297', b'-4294967.295', b'9223372036854775.808',
+               b'18446744073709551.617', b'-18446744073709551.615', b'9' * 40 + b'.5', b'-' + b'9' * 40 + b'.125', b'1' + b'0' * 300 + b'.0']
+OFF_D2 = [b'0.0', b'0.00', b'0.000', b'-0.001', b'-0.5', b'-1.5', b'4096.001', b'4096.01', b'4096.5', b'4097.0', b'65536.001', b'4294967.297',
+          b'18446744073709551.617', b'9' * 40 + b'.999', b'-' + b'9' * 40 + b'.0', b'1' + b'0' * 300 + b'.000']
 BAD_NAMES = [b'', b'9', b'9a', b'_a', b'a b', b'a.b', b'A' * 17, b'a' * 18, b' a', b'a ', b'a\r',
              b'a\x00', b'\xc3\xa9', b'a:single', b'*', b'!', b'!!R', b'--', b'-a', b'a!', b'\xff',
              b'a/b']
@@ -48,6 +65,34 @@ BAD_MATRICES = [(4, 6, 9), (0, 0, 0), (-1, 0, 1), (1, 0, -1), (-5, 6, -9), (-5, 
 GOOD_MATRICES = [(5, 6, 9), (1, 0, 1), (16777216, 0, 16777216), (16777216, 16777215, 16777216),
                  (16777216, -16777215, 16777216), (1, 0, 16777216), (16777216, 0, 1), (1, 4095, 16777216),
                  (1, -4095, 16777216), (2, 1, 1), (2, -1, 1), (65536, 0, 256), (40000, 0, 30625)]
+# In thousandths: singular by one thousandth, by all entries, at the ends of the range, and by 1 in products that doubles round.
+BAD_DECIMAL_MATRICES = [(4000, 6000, 9000), (0, 0, 0), (-1, 0, 1), (1, 0, -1), (-1, 0, -1), (0, 0, 5), (5, 0, 0), (1, 1, 1), (1, -1, 1), (0, 1, 0), (2, 3, 4),
+                        (500, -500, 500), (1134500, 1134500, 1134500), (-1134500, -234500, -1134500), (2000000000, 2000000000, 2000000000),
+                        (2000000000, -2000000000, 2000000000), (1999999998, 1999999999, 2000000000), (1999999998, -1999999999, 2000000000),
+                        (1000000000, 1414213563, 2000000000), (2000000000, 0, -2000000000), (-2000000000, 2000000000, 2000000000),
+                        (-2000000000, 0, -2000000000), (1, 44722, 2000000000), (2000000000, 2000000000, 1), (1, 2000000000, 2000000000)]
+GOOD_DECIMAL_MATRICES = [(4001, 6000, 9000), (1, 0, 1), (2, 1, 1), (2, -1, 1), (1134500, -234500, 1134500), (2000000000, 1999999999, 2000000000),
+                         (2000000000, -1999999999, 2000000000), (2000000000, 0, 2000000000), (1, 0, 2000000000), (2000000000, 0, 1),
+                         (1, 44721, 2000000000), (1, -44721, 2000000000), (1000000000, 1414213562, 2000000000), (1999999999, 1999999998, 1999999999),
+                         (1500, 500, 500), (999, -1, 999), (2000000000, -1, 2000000000)]
+# c11, c12, c22, D2 of an `ellip` line, and what it is refused with.
+DECIMAL_LINES = (
+    ('1134.5 -234.5 1134.5 1', 0), ('1 0 1 0.001', 0), ('1 0 1 4096.0', 0), ('1 0 1 4096.000', 0), ('1 0 1 4095.999', 0), ('1 0.0 1 1', 0),
+    ('1 0.000 1 1', 0), ('1 -0.5 1 1', 0), ('1 -0.999 1 1', 0), ('1 -0.001 1 1', 0), ('1 0.05 1 1', 0), ('1.500 -0.050 1.05 1.005', 0), ('0.001 0 0.001 1', 0),
+    ('2000000 0 2000000 1.0', 0), ('2000000.000 -1999999.999 2000000 1', 0), ('2000000 1999999.999 2000000.0 4096', 0), ('5.0 6.0 9.0 1.0', 0),
+    ('4.001 6 9 1', 0), ('0.5 0 0.5 0.5', 0), ('1999999.999 0 1 1', 0), ('5 6 9 1', 0), ('16777216 0 16777216 1', 0), ('2000001 -2000000 2000001 4096', 0),
+    ('1 0 1 -0', 7), ('-0 0.5 1 1', 7), ('1.5 -0 1 1', 7), ('1 -0.0 1 1', 7), ('1 -0.000 1 1', 7), ('1 .5 1 1', 7), ('1 -.5 1 1', 7), ('5. 0 1 1', 7),
+    ('1.2345 0 1 1', 7), ('1 0 1.0000 1', 7), ('00.5 0 1 1', 7), ('1 +0.5 1 1', 7), ('1e3 0 1 0.5', 7), ('1 0 1 1.-5', 7), ('1 0 1 1.5.2', 7), ('1 . 1 1', 7),
+    ('1 - 1 1', 7), ('1 0 1 .', 7), ('9999999999.5 -0.0 1 1', 7), ('2000000.001 0 1 .5', 7), ('1 0 1 *', 7), ('1.5 0 1 *', 7),
+    ('2000000.001 0 1 1', 8), ('1 -2000000.001 1 1', 8), ('1 0 2000000.001 1', 8), ('2000001 0 1 1.0', 8), ('1 2000001 1.0 1', 8), ('1.0 0 2000001 1', 8),
+    ('1 -2000001 1 0.5', 8), ('16777216 0 16777216 1.0', 8), ('16777217 0 1 1', 8), ('1 0 1 4096.001', 8), ('1 0 1 0.000', 8), ('1 0 1 0.0', 8),
+    ('1 0 1 -0.001', 8), ('1.0 0 1 0', 8), ('1.0 0 1 4097', 8), ('0.0 0 1 0.000', 8), ('4 6 9 4096.5', 8),
+    ('0.000 0 1 1', 11), ('-0.5 0 -0.5 1', 11), ('4.0 6 9 1', 11), ('4 6 9 0.5', 11), ('4 6.000 9 1', 11), ('3.999 6 9 1', 11), ('0.001 0.001 0.001 1', 11),
+    ('0.5 -0.5 0.5 1', 11), ('2000000 -2000000 2000000 0.001', 11), ('1999999.998 1999999.999 2000000 1', 11), ('1 0 0.0 1', 11), ('1 0 -0.001 1', 11))
+# Lines under `dims A B` with a point where none may be.
+POINTS_ELSEWHERE = ('rect X - A 0.5 9', 'rect X - A 0 9.0', 'poly X - A B 0 0 1.5 0 1 1', 'poly X - A B 0 0 1 0 1 -0.5', 'ellip X - A B 0.5 0 5 6 9 1',
+                    'ellip X - A B 0 1.000 5 6 9 1', 'ellip X - A B 1.0 0 5.5 6 9 1', 'ellip X - A B 0 -0.5 5 6 9 0.5', 'quad X - 1 A 1 0.5 L 0 H 1',
+                    'quad X - 1 A 1 0 L -1.0 H 0', 'quad X - 1 A 1 0 L -1 H 0.5')
 BAD_HEADS = [b'dims', b'dims\t', b'Dims\tA', b' dims\tA', b'dims \tA', b'dims08\tA', b'dims\tA\tA',
              b'dims\tA\t', b'dims\t\tA', b'dims\t9A', b'dims\t-', b'dims\t_A', b'dims\tA\r', b'',
              b'dims\tA B', b'dims A', b'dims\tA\tB\tC\tD\tE\tF\tG\tH\tI', b'\tA', b'A\tB',
@@ -57,6 +102,26 @@ BAD_HEADS = [b'dims', b'dims\t', b'Dims\tA', b' dims\tA', b'dims \tA', b'dims08\
 
 def text(value):
     return b'%d' % value
+
+
+def decimal_text(rng, value, point):
+    """A value in thousandths as a number, with a point where it is asked for or needed; zeros may follow."""
+    sign, (whole, rest) = '-' if value < 0 else '', divmod(abs(value), 1000)
+    if not rest and not point:
+        return b'%d' % (value // 1000)
+    decimals = '%03d' % rest
+    least = len(decimals.rstrip('0')) or 1
+    return ('%s%d.%s' % (sign, whole, decimals[:rng.choice((least, least, rng.randint(least, 3)))])).encode()
+
+
+def decimal_texts(rng, values):
+    """Values in thousandths as numbers, of which one at least has a point, and often just one."""
+    points = rng.choice(([True] * len(values), [rng.random() < 0.5 for _ in values], [False] * len(values)))
+    texts = [decimal_text(rng, value, point) for value, point in zip(values, points)]
+    if not any(b'.' in each for each in texts):
+        at = rng.randrange(len(values))
+        texts[at] = decimal_text(rng, values[at], True)
+    return texts
 
 
 def clip(value, limits=(-65536, 65535)):
@@ -282,6 +347,167 @@ def rim_matrix(rng):
     return good, p * p + q * q, [(m[0] * x + m[1] * y, m[2] * x + m[3] * y) for x, y in circle]
 
 
+def decimal_sides(entries, d2, dx, dy):
+    """The two sides of the rule, entries and D2 in thousandths."""
+    c11, c12, c22 = entries
+    return (c22 * dx * dx - 2 * c12 * dx * dy + c11 * dy * dy) * 10 ** 6, d2 * (c11 * c22 - c12 * c12)
+
+
+def in_64_bits(value):
+    return (value + 2 ** 63) % 2 ** 64 - 2 ** 63
+
+
+def wrong_in_64_bits(entries, d2, dx, dy):
+    """Whether sides that wrap at 64 bits say otherwise whether the point is inside."""
+    left, right = decimal_sides(entries, d2, dx, dy)
+    return (in_64_bits(left) <= in_64_bits(right)) != (left <= right)
+
+
+def wrong_in_doubles(entries, d2, dx, dy):
+    """Whether doubles say otherwise whether the point is inside."""
+    left, right = decimal_sides(entries, d2, dx, dy)
+    near, far = decimal_sides([float(entry) for entry in entries], float(d2), float(dx), float(dy))
+    return (near <= far) != (left <= right)
+
+
+def rim_wrong_in_64_bits(entries, d2, dx, dy):
+    """Whether sides that wrap at 64 bits are equal and the point isn't on the rim."""
+    left, right = decimal_sides(entries, d2, dx, dy)
+    return left != right and (left - right) % 2 ** 64 == 0
+
+
+def rim_wrong_in_doubles(entries, d2, dx, dy):
+    """Whether doubles say otherwise whether the point is on the rim."""
+    left, right = decimal_sides(entries, d2, dx, dy)
+    near, far = decimal_sides([float(entry) for entry in entries], float(d2), float(dx), float(dy))
+    return (near == far) != (left == right)
+
+
+def in_other_numbers(rng, entries, d2):
+    """The same ellipse in thousandths, or None: the matrix times k, D2 times a million over k."""
+    factors = [f * 2 ** a * 5 ** b for f in range(1, d2 + 1) if d2 % f == 0 for a in range(7) for b in range(7)]
+    largest = max(map(abs, entries))
+    good = [k for k in factors if k * largest <= 2000000000 and d2 * 10 ** 6 <= 4096000 * k]
+    if not good:
+        return None
+    k = rng.choice((rng.choice(good), rng.choice(good), max(good), min(good)))
+    return tuple(k * entry for entry in entries), d2 * 10 ** 6 // k
+
+
+def thin_matrix(rng):
+    """A matrix with a determinant of k2, however large its entries, D2 (in thousandths) and points on the rim or beside it by little.
+
+    It is k M Mt, the determinant of M is 1, and M (x, y) is on the rim where D2 is (x2 + y2) / k.
+    """
+    size = rng.choice((3, 40, 1000, 30000, 30000, 30000))
+    while True:
+        k = rng.choice((1, 1, 1, 2, 4, 5, 8, 125))
+        p, q = rng.randint(1, size), rng.randint(1, size)
+        if math.gcd(p, q) != 1:
+            continue
+        r = -pow(q, -1, p) % p          # q r + 1 is a multiple of p
+        s = (q * r + 1) // p
+        entries = (k * (p * p + q * q), k * (p * r + q * s), k * (r * r + s * s))
+        x, y = rng.choice(((1, 0), (0, 1), (1, 1), (-1, 1), (2, 0), (1, 2)))
+        d2 = 10 ** 6 * (x * x + y * y) // k
+        if max(entries) <= 2000000000 and 2 <= d2 < 4096000 and on_scale((p * x + q * y, r * x + s * y)):
+            break
+    if rng.random() < 0.5:
+        entries = (entries[0], -entries[1], entries[2])
+        r, s = -r, -s
+    rim = [(way * (p * a + q * b), way * (r * a + s * b)) for way in (-1, 1) for a, b in ((x, y), (y, -x))]
+    return entries, d2 + rng.choice((0, -1, 1)), [point for point in rim if on_scale(point)]
+
+
+def upright_matrix(rng):
+    """An ellipse with (a, 0) on the rim, or, where c12 isn't 0, outside by very little; D2 in thousandths."""
+    while True:
+        a, d2 = rng.choice((1, 50, 1000, 65535, rng.randint(1, 65535), rng.randint(1, 65535))), 2 ** rng.randint(0, 6) * 5 ** rng.randint(0, 6)
+        d2 *= rng.choice((1, 1, a, 4))
+        c11 = 10 ** 6 * a * a // d2
+        if d2 <= 4096000 and 1 <= c11 <= 2000000000 and c11 * d2 == 10 ** 6 * a * a:
+            break
+    c12 = rng.choice((0, 0, 1, -1, 2, -7))
+    c22 = rng.choice((2000000000, 1999999999, rng.randint(60, 2000000000), rng.randint(60, 10 ** 6)))
+    if c11 * c22 <= c12 * c12:
+        c12 = 0
+    if rng.random() < 0.5:
+        return (c11, c12, c22), d2, [(a, 0), (-a, 0)]
+    return (c22, c12, c11), d2, [(0, a), (0, -a)]
+
+
+def wrapped_matrix(rng):
+    """Both sides are multiples of 2 to the 64, at the middle and at points inside; all in thousandths."""
+    d2 = 2 ** rng.randint(4, 21)
+    c11, c22 = rng.choice(((30, 30), (30, 30), (30, max(14, 34 - d2.bit_length() + 1)), (max(14, 34 - d2.bit_length() + 1), 30)))
+    points = [(x, y) for x in (-16384, 0, 16384) for y in (-16384, 0, 16384)]
+    return (2 ** c11, 0, 2 ** c22), d2, points + [(0, 0)] * 4
+
+
+def crossings(entries, d2):
+    """The last whole points inside along both dimensions, and the first outside; all in thousandths."""
+    points = []
+    for entry, way in ((entries[2], (1, 0)), (entries[0], (0, 1))):
+        right = decimal_sides(entries, d2, 0, 0)[1]
+        last = math.isqrt(right // (10 ** 6 * entry))
+        points += [(k * way[0], k * way[1]) for k in (last, last + 1, -last, -last - 1)]
+    return points
+
+
+def decimal_matrix(rng):
+    """A good matrix and D2, all in thousandths, and some points on the rim, less the means."""
+    style, found = rng.random(), None
+    while style < 0.42 and not found:
+        entries, d2, rim = rng.choice((matrix, rim_matrix, rim_matrix, lambda rng: mapped_circle(rng, True)))(rng)
+        found = in_other_numbers(rng, entries, d2)
+    if found:
+        return *found, rim
+    if style < 0.62:
+        return thin_matrix(rng)
+    if style < 0.77:
+        return upright_matrix(rng)
+    if style < 0.82:
+        return wrapped_matrix(rng)
+    if style < 0.9:
+        entries, d2 = rng.choice(GOOD_DECIMAL_MATRICES), rng.choice((1, 2, 999, 1000, 1001, 4095999, 4096000))
+    else:
+        c11, c22 = rng.randint(1, 400000), rng.randint(1, 400000)
+        most = math.isqrt(c11 * c22 - 1)
+        entries, d2 = (c11, rng.choice((rng.randint(-most, most), most, -most, clip(-rng.randint(1, 999), (-most, most)))), c22), rng.randint(1, 6000)
+    return entries, d2, crossings(entries, d2)
+
+
+def telling(rng, entries, d2, points):
+    """Those of some points, less the means, at which 64 bits or doubles would say otherwise."""
+    points = points + crossings(entries, d2) + [(0, 0), (131071, -131071), (rng.randint(-65535, 65535), rng.randint(-65535, 65535))]
+    rng.shuffle(points)
+    found = []
+    for otherwise in (wrong_in_64_bits, rim_wrong_in_64_bits, wrong_in_doubles, rim_wrong_in_doubles):
+        found += [point for point in points if otherwise(entries, d2, *point)][:3]
+    return found
+
+
+def decimal_ellipse(rng, value):
+    """Means, matrix, D2, the last two in thousandths, and points on the rim, beside it, amid, and telling ones."""
+    (mean_x, mean_y), entries, d2, points = ellipse(rng, value, decimal_matrix)
+    from_means = [(x - mean_x, y - mean_y) for x, y in points]
+    hard = [(mean_x + dx, mean_y + dy) for dx, dy in telling(rng, entries, d2, from_means)]
+    hard = [point for point in hard if on_scale(point)]
+    return (mean_x, mean_y), entries, d2, points + hard * 2
+
+
+def decimal_through(rng, x, y):
+    """Means, matrix and D2 in thousandths of an ellipse with the point mostly on its rim or where it tells; it may be off the scale."""
+    for _ in range(10):
+        entries, d2, rim = decimal_matrix(rng)
+        hard = telling(rng, entries, d2, rim)
+        dx, dy = rng.choice(hard if hard and rng.random() < 0.5 else rim)
+        if on_scale((x - dx, y - dy)):
+            return (x - dx, y - dy), entries, d2
+    means = (x - 1 if x > 0 else x + 1, clip(y))
+    return means, (500, 0, 500), 2000 * (1 + (y - means[1]) ** 2)
+
+
 def ellipse(rng, value, make):
     """Means, matrix, D2, and points on the rim, beside it and amid."""
     mean_x, mean_y = value(), value()
@@ -445,6 +671,8 @@ class Table:
 
     def ellip(self):
         rng = self.rng
+        if rng.random() < 0.3:
+            return self.decimal_ellip()
         line = self.begin(b'ellip')
         first, second = rng.sample(range(self.n), 2)
         means, entries, d2, points = ellipse(rng, self.value, matrix)
@@ -452,14 +680,38 @@ class Table:
             self.points.append([(first, x), (second, y)])
         return self.finish_ellip(line, first, second, means, entries, d2)
 
-    def finish_ellip(self, line, first, second, means, entries, d2):
+    def decimal_ellip(self):
+        """A line with decimals, and now and then the same one without them, where it is whole."""
+        rng = self.rng
+        line = self.begin(b'ellip')
+        first, second = rng.sample(range(self.n), 2)
+        if rng.random() < 0.2:
+            means, entries, d2, points = ellipse(rng, self.value, rng.choice((matrix, rim_matrix)))
+            if max(map(abs, entries)) <= 2000000:
+                if self.most - len(self.regions) > 1:
+                    self.finish_ellip(self.begin(b'ellip'), first, second, means, entries, d2)
+                entries, d2 = [1000 * entry for entry in entries], 1000 * d2
+            else:
+                entries, d2 = in_other_numbers(rng, entries, d2) or ((1500, 0, 1500), 1)
+        else:
+            means, entries, d2, points = decimal_ellipse(rng, self.value)
+        for x, y in points:
+            self.points.append([(first, x), (second, y)])
+        return self.finish_ellip(line, first, second, means, entries, d2, decimals=True)
+
+    def finish_ellip(self, line, first, second, means, entries, d2, decimals=False):
+        """With decimals the matrix and D2 are in thousandths."""
         line.add('dimension', self.dimensions[first])
         line.add('dimension', self.dimensions[second])
         for mean in means:
             line.add('mean', text(mean))
-        for entry in entries:
-            line.add('entry', text(entry))
-        line.add('d2', text(d2))
+        if decimals:
+            texts, roles = decimal_texts(self.rng, [*entries, d2]), ('decimal entry', 'decimal d2')
+        else:
+            texts, roles = [text(value) for value in (*entries, d2)], ('entry', 'd2')
+        for entry in texts[:3]:
+            line.add(roles[0], entry)
+        line.add(roles[1], texts[3])
         return self.finish(line, 12)
 
     def quad(self, room=None):
@@ -724,7 +976,9 @@ class OutlineTable(Table):
     def ellip(self):
         line = self.begin(b'ellip')
         first, second = self.rng.sample(range(self.n), 2)
-        return self.finish_ellip(line, first, second, *ellipse_through(self.rng, *self.aim(first, second)))
+        decimals = self.rng.random() < 0.4
+        through = decimal_through if decimals else ellipse_through
+        return self.finish_ellip(line, first, second, *through(self.rng, *self.aim(first, second)), decimals=decimals)
 
     def operand(self):
         """The event is in most regions; with less of `!` it is in more combinations too."""
@@ -861,27 +1115,56 @@ def damage_name(table, line):
 
 
 def damage_form(table, line):
-    numbers = line.places(*RANGES)
+    rng = table.rng
+    numbers = line.places(*RANGES, *DECIMAL_RANGES)
     if not numbers:
         return False
-    at = table.rng.choice(numbers)
-    line.fields[at] = table.rng.choice(BAD_NUMBERS)
-    if line.roles[at] not in ('min', 'max', 'representative') and table.rng.random() < 0.2:
+    at = rng.choice(numbers)
+    if line.kind == b'ellip' and line.roles[at] != 'mean':
+        line.fields[at] = rng.choice(BAD_DECIMALS)
+    else:
+        # A point is bad there, and so are numbers that are good in an ellipse.
+        line.fields[at] = rng.choice(BAD_NUMBERS + BAD_DECIMALS[-60::5] + [b'-0.5', b'0.0', b'1.500', b'0.001', b'1134.5'] * 2)
+    if line.roles[at] not in ('min', 'max', 'representative') and rng.random() < 0.2:
         line.fields[at] = b'*'
     return True
 
 
 def damage_range(table, line):
-    numbers = line.places(*RANGES)
+    numbers = line.places(*RANGES, *DECIMAL_RANGES)
     if not numbers:
         return False
     rng = table.rng
     at = rng.choice(numbers)
-    low, high = RANGES[line.roles[at]]
+    role = line.roles[at]
+    if role in DECIMAL_RANGES or (role in ('entry', 'd2') and rng.random() < 0.4):
+        return damage_decimal_range(rng, line)
+    low, high = RANGES[role]
     line.fields[at] = rng.choice((
         text(low - 1), text(high + 1), text(low - 1), text(high + 1), b'9' * 40, b'-' + b'9' * 40,
         b'2147483648', b'4294967296', b'-2147483649', b'1' + b'0' * rng.randint(9, 30),
         text(2 ** 64 + 1), text(-2 ** 63)))
+    return True
+
+
+def damage_decimal_range(rng, line):
+    """One of c11, c12, c22, D2 off scale because the line has a point, in it or in another of them."""
+    first = line.places('mean')[1] + 1
+    at = first + rng.randrange(4)
+    style = rng.randrange(3)
+    if style == 0 and at < first + 3:
+        # A whole number that is too large only because of the point elsewhere.
+        line.fields[at] = rng.choice((b'', b'-')) + rng.choice((b'2000001', b'16777216', b'16777215', text(rng.randint(2000001, 16777216))))
+        other = rng.choice([spot for spot in range(first, first + 4) if spot != at])
+        line.fields[other] = line.fields[other].split(b'.')[0].replace(b'-0', b'0') + b'.' + b'0' * rng.randint(1, 3)
+        if rng.random() < 0.5:
+            line.fields[first + 3] = rng.choice((b'0.5', b'1.0', b'4096.0', b'0.001'))
+    elif style == 1 and any(b'.' in field for field in line.fields[first:]):
+        low, high = (-2000000, 2000000) if at < first + 3 else (1, 4096)
+        point = b'.' in b''.join(field for spot, field in enumerate(line.fields[first:], first) if spot != at)
+        line.fields[at] = text(rng.choice((low - 1, high + 1))) + (b'' if point else b'.0')
+    else:
+        line.fields[at] = rng.choice(OFF_ENTRIES if at < first + 3 else OFF_D2)
     return True
 
 
@@ -921,11 +1204,16 @@ def damage_bounds(table, line):
 
 
 def damage_matrix(table, line):
-    entries = line.places('entry')
+    rng = table.rng
+    entries = line.places('entry', 'decimal entry')
     if not entries:
         return False
-    for at, entry in zip(entries, table.rng.choice(BAD_MATRICES)):
-        line.fields[at] = text(entry)
+    if line.places('entry') and rng.random() < 0.7:
+        texts = [text(entry) for entry in rng.choice(BAD_MATRICES)]
+    else:
+        texts = decimal_texts(rng, rng.choice(BAD_DECIMAL_MATRICES))
+    for at, entry in zip(entries, texts):
+        line.fields[at] = entry
     return True
 
 
@@ -1276,6 +1564,44 @@ def case_outlines(rng):
     return accepted('outlines', table, 25)
 
 
+def case_decimals(rng):
+    """Ellipses with decimals, some with whole ones beside them, and events upon and beside their rims."""
+    table = Table(rng, n=rng.choice((2, 2, 3)), span=rng.choice(((-5, 5), (-20, 20), (-65536, 65535))))
+    for _ in range(rng.randint(1, 3)):
+        table.decimal_ellip()
+    table.fill(rng.choice((0, 0, 2)))
+    return accepted('decimals', table.mix(), 25, orders=rng.random() < 0.2)
+
+
+def case_decimal_line(rng, given=None):
+    """One of the lines worked out by hand."""
+    table = Table(rng, n=rng.choice((2, 3)))
+    table.fill(rng.choice((0, 0, 1, 3)))
+    (fields, number), line = given or rng.choice(DECIMAL_LINES), table.begin(b'ellip')
+    first, second = rng.sample(range(table.n), 2)
+    means = table.value(), table.value()
+    for role, field in zip(('dimension', 'dimension', 'mean', 'mean', 'decimal entry', 'decimal entry', 'decimal entry', 'decimal d2'),
+                           [table.dimensions[first], table.dimensions[second], *map(text, means), *fields.encode().split(b' ')]):
+        line.add(role, field)
+    table.finish(line, 12)
+    if number == 0:
+        *entries, d2 = [int(1000 * Decimal(field)) for field in fields.split(' ')]
+        table.points += [[(first, clip(means[0] + dx)), (second, clip(means[1] + dy))] for dx, dy in crossings(entries, d2)] * 3
+    return Case('line with decimals', table.bytes() + with_events(table, 8), (number,), place=len(table.lines) + 1 if number else None)
+
+
+def case_point_elsewhere(rng, line):
+    return Case('point elsewhere', join([b'dims\tA\tB', line.encode().replace(b' ', b'\t')]) + b'events\n0\t0\n', (7,), place=2)
+
+
+def case_decimal_event(rng):
+    """A list whose events have decimals, however whole."""
+    table = small_table(rng)
+    values = [b'0'] * table.n
+    values[rng.randrange(table.n)] = rng.choice((b'0.5', b'-0.5', b'1.0', b'0.000', b'65535.5'))
+    return Case('event with decimals', table.bytes() + with_events(table, 2) + join([b'\t'.join(values)]), (23,))
+
+
 def case_quadrants(rng):
     table = Table(rng, n=rng.choice((1, 2, 3, 4)))
     table.quad()
@@ -1467,7 +1793,8 @@ FAMILIES = ((140, case_small), (90, case_referring), (110, case_outlines), (60, 
             (50, case_many_faults), (55, case_rough_table), (30, case_rough_input),
             (10, case_crowded), (3, case_crowded_then_bad), (30, case_twin), (30, case_dead), (40, case_circle),
             (7, case_plan_size), (3, case_polygons), (4, case_table_size), (4, case_long_number),
-            (5, case_input_size), (3, case_long_table_part), (40, case_many_events))
+            (5, case_input_size), (3, case_long_table_part), (40, case_many_events), (90, case_decimals), (15, case_decimal_line),
+            (5, case_decimal_event))
 
 # The limits of size and one of each refusal stand at the beginning of every run, so that
 # none is left to chance.
@@ -1478,8 +1805,10 @@ FIRST = ([lambda rng, size=size: case_table_size(rng, size) for size in (32767, 
          + [lambda rng, vertices=vertices: case_polygons(rng, vertices) for vertices in (2022, 2023, 2024)]
          + [lambda rng, number=number: case_one_fault(rng, number) for number in range(4, 13)]
          + [lambda rng, style=style: case_list_forms(rng, style) for style in range(10)]
+         + [lambda rng, given=given: case_decimal_line(rng, given) for given in DECIMAL_LINES]
+         + [lambda rng, line=line: case_point_elsewhere(rng, line) for line in POINTS_ELSEWHERE]
          + [case_crowded, case_crowded_then_bad, case_full, case_twin, case_dead, case_circle,
-            case_open_table, case_head, case_long_table_part])
+            case_open_table, case_head, case_long_table_part, case_decimal_event])
 _WEIGHTS = [weight for weight, _ in FAMILIES]
 _MAKERS = [maker for _, maker in FAMILIES]
 
@@ -1516,6 +1845,10 @@ def orders(rng, lines, k):
 
 # ---------------------------------------------------------------- plans
 
+# The last four words of an ellipse, by its kind.
+ELLIPSE_ROLES = {3: ('c11', 'c12', 'c22', 'd2'), 7: ('decimal c11', 'decimal c12', 'decimal c22', 'decimal d2')}
+
+
 class Plan:
     """Words of a valid plan with the role of each, so that each role can be damaged."""
 
@@ -1549,11 +1882,11 @@ class Plan:
 
     def step(self, region, earlier):
         rng = self.rng
-        kinds = [1, 1]
+        kinds = [1, 1, 1, 1]
         if self.n > 1:
-            kinds += [2, 3, 3]
+            kinds += [2, 2, 3, 3, 3, 7, 7]
         if earlier:
-            kinds += [4, 5, 6]
+            kinds += [4, 5, 6] * 2
         kind = rng.choice(kinds)
         self.add('kind', kind)
         self.add('region', region)
@@ -1588,17 +1921,19 @@ class Plan:
             for _ in range(6):
                 x, y = near_outline(rng, vertices)
                 self.points.append([(first, x), (second, y)])
-        elif kind == 3:
+        elif kind in (3, 7):
             first, second = rng.sample(range(self.n), 2)
             self.add('length', 8)
             self.add('dimension', first)
             self.add('dimension', second)
-            means, entries, d2, points = ellipse(rng, self.value, rng.choice((matrix, rim_matrix)))
+            if kind == 3:
+                means, entries, d2, points = ellipse(rng, self.value, rng.choice((matrix, rim_matrix)))
+            else:
+                means, entries, d2, points = decimal_ellipse(rng, self.value)
             for mean in means:
                 self.add('mean', mean)
-            for role, entry in zip(('c11', 'c12', 'c22'), entries):
-                self.add(role, entry)
-            self.add('d2', d2)
+            for role, word in zip(ELLIPSE_ROLES[kind], (*entries, d2)):
+                self.add(role, word)
             self.points += [[(first, x), (second, y)] for x, y in points]
         else:
             size = 1 if kind == 6 else rng.choice((2, 2, 3, 5, 63 if rng.random() < 0.1 else 4))
@@ -1616,10 +1951,10 @@ class Plan:
 
 ODD_WORDS = (-2147483648, 2147483647, -65537, -65536, -65535, -2, -1, 0, 1, 2, 3, 4, 5, 6, 7, 8, 9, 12,
              13, 24, 25, 27, 63, 64, 65, 128, 514, 516, 4096, 4097, 65535, 65536, 65537, 16777216,
-             16777217, -16777216, -16777217, 131072)
+             16777217, -16777216, -16777217, 131072, 2000000000, 2000000001, -2000000000, -2000000001, 4096000, 4096001)
 
 ROLES = ('n', 'steps', 'kind', 'region', 'parent', 'length', 'dimension', 'min', 'max', 'vertex',
-         'mean', 'c11', 'c12', 'c22', 'd2', 'operand')
+         'mean', *ELLIPSE_ROLES[3], *ELLIPSE_ROLES[7], 'operand')
 
 
 def odd_word(rng, plan, words, at):
@@ -1667,9 +2002,16 @@ def broken_rules(plan):
                 breaks('dimension n', at, plan.n)
                 if words[at + 1] >= -65535:
                     breaks('max is min', at + 2, words[at + 1])
-        elif kind in (2, 3):
+        elif kind in (2, 3, 7):
             breaks('dimension twice in an outline', body + 1, words[body])
             breaks('dimension n', body + kind % 2, plan.n)
+            if kind in ELLIPSE_ROLES:
+                entry, widest = (16777216, 4096) if kind == 3 else (2000000000, 4096000)
+                for at in range(body + 4, end - 1):
+                    for word in (entry + 1, -entry - 1):
+                        breaks('entry off range, kind %d' % kind, at, word)
+                for word in (0, -1, widest + 1):
+                    breaks('D2 off range, kind %d' % kind, end - 1, word)
         else:
             for at in range(body, end):
                 for other in regions[turn:]:
@@ -1679,13 +2021,39 @@ def broken_rules(plan):
     return rules
 
 
+def damage_ellipse(rng, words, at):
+    """An ellipse, c11 at a place, of the other kind, at the ends of either kind's ranges, or with c11 below 1 and a fault behind it."""
+    if at + 4 > len(words):
+        return
+    style = rng.randrange(9)
+    if style < 4 and words[at - 8] in ELLIPSE_ROLES:
+        words[at - 8] = 10 - words[at - 8]
+    if style == 0:
+        entry = rng.choice((16777216, 16777217, 2000000000, rng.randint(16777217, 2000000000)))
+        words[at:at + 3] = [entry, rng.randint(-entry, entry), entry]
+    elif style == 1:
+        words[at:at + 3] = rng.choice(GOOD_DECIMAL_MATRICES)
+    elif style in (3, 4):
+        words[at + rng.randrange(3)] = rng.choice((-1, 1)) * rng.choice((16777216, 16777217, 2000000000, 2000000001))
+    elif style in (5, 6):
+        words[at + 3] = rng.choice((0, 1, 4096, 4097, 4096000, 4096001))
+    elif style > 6:
+        words[at] = rng.choice((0, -1, -5, -2000000000))
+        if style == 7:
+            words[at + rng.randint(1, 2)] = rng.choice((-1, 1)) * rng.choice((16777217, 2000000001))
+        else:
+            del words[at + rng.randint(1, 3):]
+
+
 def damage_plan(rng, plan):
     """Words of a plan with one to three faults of any sort."""
     words = list(plan.words)
-    ellipses = [at for at, role in enumerate(plan.roles) if role == 'c11']
+    ellipses = [at for at, role in enumerate(plan.roles) if role in ('c11', 'decimal c11')]
     for _ in range(rng.choice((1, 1, 1, 2, 3))):
-        style = rng.randrange(17)
-        if style < 4:       # a word of some role, each role as likely as the others
+        style = rng.randrange(21)
+        if style > 16 and ellipses:
+            damage_ellipse(rng, words, rng.choice(ellipses))
+        elif style < 4:       # a word of some role, each role as likely as the others
             here = sorted(set(plan.roles))
             role = rng.choice(here)
             at = rng.choice([at for at, other in enumerate(plan.roles) if other == role])
@@ -1694,12 +2062,14 @@ def damage_plan(rng, plan):
         elif style in (4, 10) and ellipses:     # the matrix: bad, off range, or cut off after it or in it
             at = rng.choice(ellipses)
             if at + 4 <= len(words):
-                words[at:at + 3] = rng.choice(BAD_MATRICES)
+                decimals = plan.roles[at] == 'decimal c11'
+                words[at:at + 3] = rng.choice(BAD_DECIMAL_MATRICES if decimals else BAD_MATRICES)
                 more = rng.randrange(4)
                 if more == 0:
-                    words[at + rng.randrange(3)] = rng.choice((16777217, -16777217, 2147483647, -2147483648))
+                    entry = 2000000001 if decimals else 16777217
+                    words[at + rng.randrange(3)] = rng.choice((entry, -entry, 2147483647, -2147483648))
                 elif more == 1:
-                    words[at + 3] = rng.choice((0, 4097, -1))
+                    words[at + 3] = rng.choice((0, 4096001 if decimals else 4097, -1))
                 elif more == 2:
                     words = words[:at + rng.randint(0, 4)]
         elif style < 7:     # cut off anywhere
@@ -1714,12 +2084,12 @@ def damage_plan(rng, plan):
                 words.insert(at, rng.choice(ODD_WORDS))
         elif style == 9 and len(words) > 1:
             words[1] += rng.choice((-1, 1))
-        elif style > 13 and plan.starts:    # a rule broken that hangs on other words
+        elif 13 < style < 17 and plan.starts:   # a rule broken that hangs on other words
             rules = broken_rules(plan)
             at, word = rng.choice(rules[rng.choice(sorted(rules))])
             if at < len(words):
                 words[at] = word
-        elif style > 11 and plan.starts:    # a length that its kind forbids, and a body to match
+        elif 11 < style < 14 and plan.starts:   # a length that its kind forbids, and a body to match
             start = rng.choice(plan.starts)
             length = plan.words[start + 3]
             other = max(0, length + rng.choice((-3, -2, -1, -1, 1, 1, 2, 3)))
@@ -1735,7 +2105,7 @@ def damage_plan(rng, plan):
             if at < len(words):
                 words[at] = odd_word(rng, plan, words, at)
                 words = words[:rng.randint(at, start + 4 + length)]
-    return words
+    return [clip(word, (-2 ** 31, 2 ** 31 - 1)) for word in words]
 
 
 def long_words(rng):
@@ -1767,6 +2137,21 @@ def event_for(rng, plan):
     return event
 
 
+# Kind, c11, c12, c22, D2 of an ellipse at the ends of the ranges; these questions stand at the beginning of every run.
+FIRST_ELLIPSES = [(kind, c11, c12, c22, d2) for kind, entry, widest in ((3, 16777216, 4096), (7, 2000000000, 4096000)) for c11, c12, c22, d2 in (
+    (entry, 0, entry, widest), (entry + 1, 0, entry, 1), (entry, entry + 1, entry, 1), (entry, -entry - 1, entry, 1), (entry, 0, entry + 1, 1),
+    (entry, entry - 1, entry, 1), (entry, 1 - entry, entry, 1), (entry, entry, entry, 1), (entry, -entry, entry, 1), (-entry, 0, -entry, 1),
+    (-entry - 1, 0, 1, 1), (1, 0, -entry - 1, 1), (entry, 0, -entry, 1), (entry - 2, entry - 1, entry, 1), (1, 0, 1, widest + 1), (1, 0, 1, 0),
+    (1, 0, 1, -1), (1, 1, 1, 0), (0, entry + 1, 1, 1), (0, 0, entry + 1, 0), (2, 1, 1, 1))]
+FIRST_ELLIPSES += [(kind, 5, 0, 5, 1) for kind in (-7, 0, 8, 9, 13)]
+# Then c11, c12, c22, D2 of kind 7, and an event less the means: on the rim, beside it by little, or where 64 bits or doubles would answer otherwise.
+FIRST_JUDGED = [(1134500, -234500, 1134500, d2, dx, -dx) for d2, dx in ((1000, 26), (1000, 27), (2000, 37), (1999, 37), (2001, 37))]
+FIRST_JUDGED += [(1134903170, 701408733, 433494437, d2, 28657, 17711) for d2 in (1000000, 999999, 1000001)]
+FIRST_JUDGED += [(900000000, c12, 2000000000, 4000000, 60000, 0) for c12 in (0, 1, -1)]
+FIRST_JUDGED += [(2 ** 30, 0, 2 ** 30, d2, dx, dy) for d2, dx, dy in ((16, 0, 0), (2 ** 21, 16384, 0), (2 ** 21, 16384, -16384), (2 ** 4, 131, 0))]
+FIRST_JUDGED += [(2000000000, 0, 2000000000, 4096000, dx, dy) for dx, dy in ((90509, 0), (90510, 0), (0, -90509), (131071, -131071), (0, 0))]
+
+
 def request(seed, number):
     """The question with this number: a label and what is asked.
 
@@ -1774,6 +2159,13 @@ def request(seed, number):
     ('compile', words of the slice, table).
     """
     rng = random.Random('%s question %d' % (seed, number))
+    if number < len(FIRST_ELLIPSES):
+        kind, *numbers = FIRST_ELLIPSES[number]
+        return 'ellipse at the ends', ('judge', [2, 1, kind, 0, -1, 8, 1, 0, rng.choice(LIMITS), 5, *numbers], [rng.choice(LIMITS), rng.choice(LIMITS)])
+    if number < len(FIRST_ELLIPSES) + len(FIRST_JUDGED):
+        *numbers, dx, dy = FIRST_JUDGED[number - len(FIRST_ELLIPSES)]
+        x, y = [-65536 if step > 0 else 65535 if step < 0 else 7 for step in (dx, dy)]
+        return 'judged by hand', ('judge', [2, 1, 7, 0, -1, 8, 0, 1, x, y, *numbers], [x + dx, y + dy])
     style = rng.random()
     if style < 0.004:
         words = long_words(rng)

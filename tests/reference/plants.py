@@ -5,6 +5,8 @@ as long as its block lasts; the generator isn't touched by any.
 """
 
 import contextlib
+import re
+from fractions import Fraction
 
 import gates
 
@@ -132,7 +134,7 @@ def not_within_parent(steps, event):
 
 
 def combination_without_parent(steps, event):
-    return _ORIGINAL['event_bits']([(kind, region, -1 if kind >= gates.AND else parent, body)
+    return _ORIGINAL['event_bits']([(kind, region, -1 if kind in gates.COMBINATIONS else parent, body)
                                     for kind, region, parent, body in steps], event)
 
 
@@ -321,7 +323,7 @@ def operands(kinds):
 
 def plain_operands(kind, parent, body):
     """Those without `!`."""
-    return [word // 2 for word in body if word % 2 == 0] if kind >= gates.AND else []
+    return [word // 2 for word in body if word % 2 == 0] if kind in gates.COMBINATIONS else []
 
 
 def parent_of(kinds):
@@ -385,8 +387,8 @@ def steps_before(words, place):
 # ---------------------------------------------------------------- ashore
 
 def ranges_of_the_well_formed(gate, head):
-    return all(not gates.is_number(field) or gates.within(gates.number_value(field), limits)
-               for field, limits, _ in gate.numbers)
+    return (all(not gates.is_number(field) or gates.within(gates.number_value(field), limits) for field, limits, _ in gate.numbers)
+            and all(not gates.is_decimal(field) or gates.within(gates.thousandths(field), limits) for field, limits in gate.decimals))
 
 
 _RANGE_FIRST = tuple(sorted(_with(gates.LINE_CHECKS, 8, ranges_of_the_well_formed),
@@ -532,23 +534,23 @@ def body_length_first(kind, body, length, n, earlier):
 
 def matrix_after_d2(kind, body, length, n, earlier):
     bad = _ORIGINAL['bad_body_word'](kind, body, length, n, earlier)
-    if kind == gates.ELLIPSE and bad == 4 and len(body) >= 7 and all(
-            gates.within(word, gates.ENTRY_RANGE) for word in body[4:7]):
-        if len(body) < 8 or not gates.within(body[7], gates.D2_RANGE):
+    if kind in gates.ELLIPSES and bad == 4 and len(body) >= 7 and all(
+            gates.within(word, gates.ellipse_range(kind, 4)) for word in body[4:7]):
+        if len(body) < 8 or not gates.within(body[7], gates.ellipse_range(kind, 7)):
             return 7
     return bad
 
 
 def c11_by_range(kind, body, at, n, earlier):
     """c11 below 1 called off range, before the other words are looked at."""
-    if kind == gates.ELLIPSE and at == 4 and body[at] <= 0:
+    if kind in gates.ELLIPSES and at == 4 and body[at] <= 0:
         return False
     return _ORIGINAL['body_word_good'](kind, body, at, n, earlier)
 
 
 def dimension_twice(kind, body, at, n, earlier):
     """A dimension twice in a step let pass."""
-    if (kind == gates.BOX and at % 3 == 0) or (kind in (gates.POLYGON, gates.ELLIPSE) and at < 2):
+    if (kind == gates.BOX and at % 3 == 0) or (kind in (gates.POLYGON, *gates.ELLIPSES) and at < 2):
         return 0 <= body[at] < n
     return _ORIGINAL['body_word_good'](kind, body, at, n, earlier)
 
@@ -557,6 +559,247 @@ def odd_polygon_length(kind, length):
     if kind == gates.POLYGON:
         return 8 <= length <= 514
     return _ORIGINAL['length_good'](kind, length)
+
+
+# ---------------------------------------------------------------- decimals
+
+def form_taken(pattern):
+    """Numbers of one more form taken where decimals may stand."""
+    return lambda field: _ORIGINAL['is_decimal'](field) or re.fullmatch(pattern, field) is not None
+
+
+def fourth_cut_off(field):
+    before, _, after = field.partition(b'.')
+    return _ORIGINAL['number_value'](before + after[:3].ljust(3, b'0'))
+
+
+def thousandths_by_parts(decimals, combined):
+    """Thousandths of the number before the point, and of its decimals apart."""
+    def answer(field):
+        before, _, after = field.partition(b'.')
+        return combined(1000 * _ORIGINAL['number_value'](before), decimals(after), field[:1] == b'-')
+    return answer
+
+
+def added_by_value(whole, decimals, minus):
+    """The sign asked of the whole number, so that -0.5 has none."""
+    return whole - decimals if whole < 0 else whole + decimals
+
+
+def added_always(whole, decimals, minus):
+    return whole + decimals
+
+
+def added_by_sign(whole, decimals, minus):
+    return whole - decimals if minus else whole + decimals
+
+
+def right_decimals(after):
+    return int(after.ljust(3, b'0'))
+
+
+def decimals_anywhere(fields_of):
+    """A point let pass in other numbers too, whose decimals are then cut off."""
+    def good(gate, head):
+        free = fields_of(gate)
+        return (all(gates.is_number(field) or (star and field == b'*') or (gates.is_decimal(field) and field in free)
+                    for field, _, star in gate.numbers)
+                and all(gates.is_decimal(field) for field, _ in gate.decimals))
+    return {'LINE_CHECKS': _with(gates.LINE_CHECKS, 7, good),
+            'number_value': lambda field: _ORIGINAL['number_value'](field.partition(b'.')[0])}
+
+
+def decimal_events(line, n):
+    """Decimals in the event list cut off."""
+    fields = line[:-1].split(b'\t')
+    if all(gates.is_decimal(field) for field in fields):
+        return _ORIGINAL['event_values'](b'\t'.join(field.partition(b'.')[0].replace(b'-0', b'0') for field in fields) + line[-1:], n)
+    return _ORIGINAL['event_values'](line, n)
+
+
+def long_decimals_are_form(gate, head):
+    """A number with decimals too long for 32 bits called ill-formed."""
+    return gates.forms_good(gate, head) and all(-2 ** 31 <= gates.thousandths(field) < 2 ** 31 for field, _ in gate.decimals)
+
+
+def narrow_where(narrow):
+    """The narrow range not asked of a whole entry of a line with decimals, by the line's fields."""
+    def good(gate, head):
+        others = [field for field, _ in gate.decimals]
+        return all(gates.within(gates.number_value(field), gates.ENTRY_RANGE)
+                   if b'.' not in field and at < 3 and not narrow(others) else gates.within(gates.thousandths(field), limits)
+                   for at, (field, limits) in enumerate(gate.decimals)) and ranges_of_the_whole(gate)
+    return {'LINE_CHECKS': _with(gates.LINE_CHECKS, 8, good)}
+
+
+def ranges_of_the_whole(gate):
+    return all(field == b'*' or gates.within(gates.number_value(field), limits) for field, limits, _ in gate.numbers)
+
+
+def range_of_d2(low, high):
+    """D2 of a line with decimals asked for another range, ashore only; in thousandths."""
+    def good(gate, head):
+        limits = [gates.DECIMAL_ENTRY_RANGE] * 3 + [(low, high)]
+        return ranges_of_the_whole(gate) and all(gates.within(gates.thousandths(field), limit)
+                                                 for (field, _), limit in zip(gate.decimals, limits))
+    return {'LINE_CHECKS': _with(gates.LINE_CHECKS, 8, good)}
+
+
+def in_32_bits(value):
+    return (value + 2 ** 31) % 2 ** 32 - 2 ** 31
+
+
+def in_64_bits(value):
+    return (value + 2 ** 63) % 2 ** 64 - 2 ** 63
+
+
+def matrix_in_32_bits(c11, c12, c22):
+    return c11 > 0 and in_32_bits(int(c11 * c22)) > in_32_bits(int(c12 * c12))
+
+
+def matrix_in_doubles(c11, c12, c22):
+    return c11 > 0 and float(c11) * float(c22) > float(c12) * float(c12)
+
+
+def matrix_rounded(gate, head):
+    """The matrix of a line with decimals judged by whole numbers."""
+    if gate.kind != b'ellip':
+        return True
+    return gates.matrix_is_good(*[int(value) for value in gates.ellipse_numbers(gate)[2:5]])
+
+
+def every_line_to_kind_7(head, table_gates):
+    """Lines without decimals too, where their entries allow."""
+    numbers, steps = _ORIGINAL['region_steps'](head, table_gates)
+
+    def step(kind, parent, body, waits):
+        if kind == gates.ELLIPSE and all(abs(entry) <= 2000000 for entry in body[4:7]):
+            return gates.DECIMAL_ELLIPSE, parent, body[:4] + [1000 * word for word in body[4:]], waits
+        return kind, parent, body, waits
+
+    return numbers, [step(*each) for each in steps]
+
+
+def whole_values_to_kind_3(head, table_gates):
+    """4.0 taken for a number without decimals."""
+    numbers, steps = _ORIGINAL['region_steps'](head, table_gates)
+
+    def step(kind, parent, body, waits):
+        if kind == gates.DECIMAL_ELLIPSE and all(word % 1000 == 0 for word in body[4:]):
+            return gates.ELLIPSE, parent, body[:4] + [word // 1000 for word in body[4:]], waits
+        return kind, parent, body, waits
+
+    return numbers, [step(*each) for each in steps]
+
+
+def points_left_whole(head, table_gates):
+    """Of a line with decimals the numbers without a point not taken to thousandths."""
+    numbers, steps = _ORIGINAL['region_steps'](head, table_gates)
+    decimals = [gate.decimals for gate in table_gates for _ in gate.regions()]
+
+    def step(kind, parent, body, waits, fields):
+        if kind == gates.DECIMAL_ELLIPSE:
+            body = body[:4] + [word if b'.' in field else word // 1000 for word, (field, _) in zip(body[4:], fields)]
+        return kind, parent, body, waits
+
+    return numbers, [step(*each, fields) for each, fields in zip(steps, decimals)]
+
+
+def decimal_sides(dx, dy, c11, c12, c22, d2):
+    """01's rule in thousandths."""
+    return (c22 * dx * dx - 2 * c12 * dx * dy + c11 * dy * dy) * 10 ** 6, d2 * (c11 * c22 - c12 * c12)
+
+
+def decimal_sides_in_64_bits(dx, dy, c11, c12, c22, d2):
+    left, right = decimal_sides(dx, dy, c11, c12, c22, d2)
+    return in_64_bits(left), in_64_bits(right)
+
+
+def decimal_sides_in_u64(dx, dy, c11, c12, c22, d2):
+    left, right = decimal_sides(dx, dy, c11, c12, c22, d2)
+    return left % 2 ** 64, right % 2 ** 64
+
+
+def left_in_64_bits(dx, dy, c11, c12, c22, d2):
+    """Only what stands before the factor of a million wraps."""
+    left, right = decimal_sides(dx, dy, c11, c12, c22, d2)
+    return in_64_bits(left // 10 ** 6) * 10 ** 6, right
+
+
+def right_in_64_bits(dx, dy, c11, c12, c22, d2):
+    left, right = decimal_sides(dx, dy, c11, c12, c22, d2)
+    return left, in_64_bits(right)
+
+
+def decimal_sides_in_doubles(dx, dy, c11, c12, c22, d2):
+    return decimal_sides(float(dx), float(dy), float(c11), float(c12), float(c22), float(d2))
+
+
+def decimals_in_doubles(dx, dy, c11, c12, c22, d2):
+    """The decimals themselves as doubles."""
+    c11, c12, c22, d2 = c11 / 1000, c12 / 1000, c22 / 1000, d2 / 1000
+    return c22 * dx * dx - 2 * c12 * dx * dy + c11 * dy * dy, d2 * (c11 * c22 - c12 * c12)
+
+
+def right_divided(dx, dy, c11, c12, c22, d2):
+    """Divided by the million instead of multiplied: the remainder is lost."""
+    left, right = decimal_sides(dx, dy, c11, c12, c22, d2)
+    return left // 10 ** 6, right // 10 ** 6
+
+
+def both_divided(dx, dy, c11, c12, c22, d2):
+    """The determinant brought back to whole numbers first."""
+    return (c22 * dx * dx - 2 * c12 * dx * dy + c11 * dy * dy, d2 * ((c11 * c22 - c12 * c12) // 10 ** 6))
+
+
+def not_scaled(dx, dy, c11, c12, c22, d2):
+    """Kind 7 counted like kind 3."""
+    left, right = decimal_sides(dx, dy, c11, c12, c22, d2)
+    return left // 10 ** 6, right
+
+
+def d2_not_scaled(dx, dy, c11, c12, c22, d2):
+    """D2 taken for whole."""
+    left, right = decimal_sides(dx, dy, c11, c12, c22, d2)
+    return left // 1000, right
+
+
+def rounded_to_whole(dx, dy, c11, c12, c22, d2):
+    c11, c12, c22, d2 = [int(Fraction(word, 1000)) for word in (c11, c12, c22, d2)]
+    return c22 * dx * dx - 2 * c12 * dx * dy + c11 * dy * dy, d2 * (c11 * c22 - c12 * c12)
+
+
+def decimal_holds(sides, inside=lambda left, right: left <= right):
+    def answer(mean_x, mean_y, c11, c12, c22, d2, x, y):
+        return inside(*sides(x - mean_x, y - mean_y, c11, c12, c22, d2))
+    return {'decimal_ellipse_holds': answer}
+
+
+def decimal_rim(sides):
+    """On the rim where two sides reckoned otherwise are equal; what is outside stays so."""
+    def answer(mean_x, mean_y, c11, c12, c22, d2, x, y):
+        if _ORIGINAL['decimal_ellipse_position'](mean_x, mean_y, c11, c12, c22, d2, x, y) == gates.OUTSIDE:
+            return gates.OUTSIDE
+        left, right = sides(x - mean_x, y - mean_y, c11, c12, c22, d2)
+        return gates.ON_OUTLINE if left == right else gates.INSIDE
+    return {'decimal_ellipse_position': answer}
+
+
+def range_aboard(entry=None, d2=None):
+    """Words of kind 7 asked for another range, aboard only."""
+    def answer(kind, at):
+        if kind == gates.DECIMAL_ELLIPSE and at >= 4:
+            return (entry if at < 7 else d2) or _ORIGINAL['ellipse_range'](kind, at)
+        return _ORIGINAL['ellipse_range'](kind, at)
+    return {'ellipse_range': answer}
+
+
+def matrix_of_kind_3_only(kind, body, length, n, earlier):
+    """The matrix of kind 7 not judged aboard."""
+    bad = _ORIGINAL['bad_body_word'](kind, body, length, n, earlier)
+    if kind == gates.DECIMAL_ELLIPSE and bad == 4:
+        return next((at for at in range(4, length) if at == len(body) or not gates.body_word_good(kind, body, at, n, earlier)), None)
+    return bad
 
 
 PLANTS = {
@@ -630,8 +873,8 @@ PLANTS = {
     'not-takes-over-outline': {'outline_bits': taken_over(operands((gates.NOT,)))},
     'plain-operand-takes-over': {'outline_bits': taken_over(plain_operands)},
     'box-takes-over-outline': {'outline_bits': taken_over(parent_of((gates.BOX,)))},
-    'shape-takes-over-outline': {'outline_bits': taken_over(parent_of((gates.POLYGON, gates.ELLIPSE)))},
-    'combination-takes-parents': {'outline_bits': taken_over(parent_of((gates.AND, gates.OR, gates.NOT)))},
+    'shape-takes-over-outline': {'outline_bits': taken_over(parent_of((gates.POLYGON, *gates.ELLIPSES)))},
+    'combination-takes-parents': {'outline_bits': taken_over(parent_of(gates.COMBINATIONS))},
     'box-with-outline': {'outline_bits': box_with_outline},
     'outline-by-steps': {'outline_bits': outline_by_steps},
     'outline-of-32-regions': {'outline_bits': outline_of_32},
@@ -639,6 +882,71 @@ PLANTS = {
     'malformed-keeps-outline': {'judge': refused_with_outline(22)},
     'ragged-keeps-outline': {'judge': refused_with_outline(23)},
     'spoilt-keeps-outline': {'judge': refused_with_outline(24)},
+    # Decimals: forms and values.
+    'minus-zero-with-decimals': {'is_decimal': form_taken(rb'-0[.]0{1,3}')},
+    'minus-zero-beside-decimals': {'is_decimal': form_taken(rb'-0')},
+    'no-digit-before-the-point': {'is_decimal': form_taken(rb'-?[.][0-9]{1,3}')},
+    'no-digit-after-the-point': {'is_decimal': form_taken(rb'-?(0|[1-9][0-9]*)[.]')},
+    'leading-zeros-taken': {'is_decimal': form_taken(rb'-?0[0-9]+[.][0-9]{1,3}')},
+    'plus-taken': {'is_decimal': form_taken(rb'[+](0|[1-9][0-9]*)[.][0-9]{1,3}')},
+    'fourth-decimal-cut-off': {'is_decimal': form_taken(rb'-?(0|[1-9][0-9]*)[.][0-9]{4,}'), 'thousandths': fourth_cut_off},
+    'no-decimals-below-one': {'is_decimal': lambda field: gates.is_number(field) or (
+        re.fullmatch(rb'-?[1-9][0-9]*[.][0-9]{1,3}', field) is not None)},
+    'no-minus-below-one': {'is_decimal': lambda field: _ORIGINAL['is_decimal'](field) and field[:2] != b'-0'},
+    'no-zeros-at-the-end': {'is_decimal': lambda field: _ORIGINAL['is_decimal'](field) and not (b'.' in field and field[-1:] == b'0')},
+    'one-decimal-as-thousandths': {'thousandths': thousandths_by_parts(lambda after: int(after or b'0'), added_by_sign)},
+    'sign-lost-below-one': {'thousandths': thousandths_by_parts(right_decimals, added_by_value)},
+    'decimals-added-below-zero': {'thousandths': thousandths_by_parts(right_decimals, added_always)},
+    'mean-with-decimals': decimals_anywhere(lambda gate: gate.ellipse[:2]),
+    'decimals-in-boxes': decimals_anywhere(lambda gate: [field for bound in gate.bounds for field in bound]),
+    'decimals-in-polygons': decimals_anywhere(lambda gate: gate.vertices),
+    'decimals-in-dividers': decimals_anywhere(lambda gate: [field for _, fields in gate.dividers for field in fields]),
+    'decimals-in-events': {'event_values': decimal_events},
+    'long-decimals-are-form': {'LINE_CHECKS': _with(gates.LINE_CHECKS, 7, long_decimals_are_form)},
+    # Decimals: ranges, matrix and words.
+    'narrow-range-of-points-only': narrow_where(lambda fields: False),
+    'narrow-range-not-for-d2': narrow_where(lambda fields: any(b'.' in field for field in fields[:3])),
+    'narrow-range-not-for-entries': narrow_where(lambda fields: b'.' in fields[3]),
+    'd2-from-one-on': range_of_d2(1000, 4096000),
+    'd2-up-to-4096-thousandths': range_of_d2(1, 4096),
+    'd2-without-upper-end': range_of_d2(1, 2 ** 31),
+    'decimal-entry-one-more': {'DECIMAL_ENTRY_RANGE': (-2000000001, 2000000001)},
+    'decimal-entry-one-less': {'DECIMAL_ENTRY_RANGE': (-1999999999, 1999999999)},
+    'decimal-d2-one-more': {'DECIMAL_D2_RANGE': (1, 4096001)},
+    'decimal-d2-one-less': {'DECIMAL_D2_RANGE': (1, 4095999)},
+    'decimal-d2-from-zero': {'DECIMAL_D2_RANGE': (0, 4096000)},
+    'decimal-d2-from-two': {'DECIMAL_D2_RANGE': (2, 4096000)},
+    'matrix-in-32-bits': {'matrix_is_good': matrix_in_32_bits},
+    'matrix-in-doubles': {'matrix_is_good': matrix_in_doubles},
+    'decimal-matrix-rounded': {'LINE_CHECKS': _with(gates.LINE_CHECKS, 11, matrix_rounded)},
+    'whole-line-to-kind-7': {'region_steps': every_line_to_kind_7},
+    'whole-values-to-kind-3': {'region_steps': whole_values_to_kind_3},
+    'points-only-to-thousandths': {'region_steps': points_left_whole},
+    'kind-7-unknown': {'STEP_KINDS': range(1, 7)},
+    'kind-8-known': {'STEP_KINDS': range(1, 9), 'ELLIPSES': (3, 7, 8)},
+    'kind-7-entries-of-kind-3': range_aboard(entry=gates.ENTRY_RANGE),
+    'kind-7-d2-of-kind-3': range_aboard(d2=gates.D2_RANGE),
+    'kind-7-entries-of-32-bits': range_aboard(entry=(-2 ** 31, 2 ** 31 - 1)),
+    'kind-7-d2-one-more': range_aboard(d2=(1, 4096001)),
+    'kind-7-d2-from-zero': range_aboard(d2=(0, 4096000)),
+    'kind-7-matrix-not-judged': {'bad_body_word': matrix_of_kind_3_only},
+    # Decimals: members and outlines.
+    'decimal-rim-excluded': decimal_holds(decimal_sides, lambda left, right: left < right),
+    'decimal-in-64-bits': decimal_holds(decimal_sides_in_64_bits),
+    'decimal-in-u64': decimal_holds(decimal_sides_in_u64),
+    'decimal-left-in-64-bits': decimal_holds(left_in_64_bits),
+    'decimal-right-in-64-bits': decimal_holds(right_in_64_bits),
+    'decimal-sides-in-doubles': decimal_holds(decimal_sides_in_doubles),
+    'decimals-in-doubles': decimal_holds(decimals_in_doubles),
+    'decimal-determinant-rounded': decimal_holds(both_divided),
+    'kind-7-counted-as-kind-3': decimal_holds(not_scaled),
+    'decimal-d2-taken-for-whole': decimal_holds(d2_not_scaled),
+    'decimals-rounded-to-whole': decimal_holds(rounded_to_whole),
+    'decimal-rim-said-inside': {'decimal_ellipse_position': never_on_outline(gates.decimal_ellipse_position)},
+    'decimal-rim-in-64-bits': decimal_rim(decimal_sides_in_64_bits),
+    'decimal-rim-in-doubles': decimal_rim(decimal_sides_in_doubles),
+    'decimal-rim-by-division': decimal_rim(right_divided),
+    'decimal-rim-as-kind-3': decimal_rim(not_scaled),
 }
 
 

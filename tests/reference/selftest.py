@@ -4,8 +4,8 @@
     tests/reference/selftest.py [--seed S] [--tables N]
 
 First come the examples that 01 prints and small cases at each of its rules, and at those of
-02 a on outlines; then, for random tables, the plan against the lines, other orders of lines,
-sums of quadrants, and other ways of reckoning the same thing.  The last line is
+02 a on outlines and 02 b on decimals; then, for random tables, the plan against the lines, other
+orders of lines, sums of quadrants, and other ways of reckoning the same thing.  The last line is
 "N passed, M failed".
 """
 
@@ -556,6 +556,115 @@ def on_outlines():
     check('on both, too long a plan', gates.judge(deep + [0] * 4096, [65535, 1, 0]), (21, 0, 0, 0))
 
 
+# ---------------------------------------------------------------- 02 b: decimals in ellipses
+
+def decimals():
+    def ellip(fields):
+        return tabs('dims A B', 'ellip E - A B ' + fields)
+
+    def words(label, fields, kind, *numbers):
+        accepted(label, ellip('7 -8 ' + fields), [2, 1, kind, 0, -1, 8, 0, 1, 7, -8, *numbers])
+
+    words('a point anywhere', '1134.5 -234.5 1134.5 1', 7, 1134500, -234500, 1134500, 1000)
+    words('none', '5 6 9 1', 3, 5, 6, 9, 1)
+    words('in c11', '5.0 6 9 1', 7, 5000, 6000, 9000, 1000)
+    words('in c12', '5 6.0 9 1', 7, 5000, 6000, 9000, 1000)
+    words('in c22', '5 6 9.00 1', 7, 5000, 6000, 9000, 1000)
+    words('in D2', '5 6 9 1.000', 7, 5000, 6000, 9000, 1000)
+    words('one, two and three decimals', '1.5 0.05 1.005 0.25', 7, 1500, 50, 1005, 250)
+    words('zeros at the end', '1.500 0.050 1.10 4.0', 7, 1500, 50, 1100, 4000)
+    words('below zero', '2 -0.5 2 1', 7, 2000, -500, 2000, 1000)
+    words('just below zero', '2 -0.001 2 1', 7, 2000, -1, 2000, 1000)
+    words('below minus one', '2 -1.05 2 1', 7, 2000, -1050, 2000, 1000)
+    words('zero with decimals', '2 0.000 2 1', 7, 2000, 0, 2000, 1000)
+    words('the least', '0.001 0 0.001 0.001', 7, 1, 0, 1, 1)
+    words('the greatest', '2000000.0 -1999999.999 2000000 4096', 7, 2000000000, -1999999999, 2000000000, 4096000)
+    words('the greatest without decimals', '16777216 -16777215 16777216 4096', 3, 16777216, -16777215, 16777216, 4096)
+    words('just beyond the range of decimals', '2000001 0 2000001 1', 3, 2000001, 0, 2000001, 1)
+    words('a determinant of a millionth', '1134903.17 701408.733 433494.437 1', 7, 1134903170, 701408733, 433494437, 1000)
+
+    for fields, number in generate.DECIMAL_LINES:
+        label, table = 'decimals ' + fields, ellip('0 0 ' + fields)
+        refused(label, table, number, 2) if number else accepted(label, table)
+    for line in generate.POINTS_ELSEWHERE:
+        line_fault('point in ' + line, line, 7)
+    base = [b'5', b'6', b'9', b'1']
+    for at in range(4):
+        for other in (b'1', b'1.5'):
+            for fields, number in ((generate.BAD_DECIMALS, 7), (generate.OFF_ENTRIES if at < 3 else generate.OFF_D2, 8)):
+                for field in fields:
+                    texts = [other if spot == at - 1 else each for spot, each in enumerate(base)]
+                    texts[at] = field
+                    line_fault('%.40r as number %d' % (field, at), b'\t'.join([b'ellip', b'E', b'-', b'A', b'B', b'0', b'0', *texts]), number)
+    for matrix in generate.BAD_DECIMAL_MATRICES + generate.GOOD_DECIMAL_MATRICES:
+        fields = [generate.decimal_text(random.Random(0), entry, True) for entry in matrix]
+        table = b'dims\tA\tB\n' + b'\t'.join([b'ellip', b'E', b'-', b'A', b'B', b'0', b'0', *fields, b'1']) + b'\n'
+        bad = matrix in generate.BAD_DECIMAL_MATRICES
+        check('matrix %s' % fields, gates.compile_table(table, 4096)[:2], (11, 2) if bad else (0, 0))
+    line_fault('digits without end', 'ellip E - A B 0 0 1' + '0' * 30000 + '.5 0 1 1', 8)
+    line_fault('digits without end beside a point', 'ellip E - A B 0 0 1' + '0' * 30000 + ' 0 1 1.0', 8)
+    line_fault('decimals without end', 'ellip E - A B 0 0 1.' + '0' * 30000 + ' 0 1 1', 7)
+    line_fault('form before range', 'ellip E - A B 0 0 %s.5 0 1 -0.0' % FORTY, 7)
+    line_fault('range before dimension', 'ellip E - A Z 0 0 1.5 0 1 4096.001', 8)
+    line_fault('dimension before matrix', 'ellip E - A A 0 0 4.0 6 9 1', 9)
+    line_fault('a mean off scale', 'ellip E - A B 65536 0 1.5 0 1 1', 8)
+    line_fault('shape before form', 'ellip E - A B 0 0 -0.0 0 1', 5)
+    prints('no decimals in the list', ellip('0 0 1.5 0 1 1') + tabs('events', '0 0', '0 1.0'), 'refused 23 5')
+
+    # 000's example 19: 37 along (1, -1) and 30 along (1, 1), and no whole point on its rim; D2 = 2 makes them 37 and 30 times the root of 2.
+    example = '40 40 1134.5 -234.5 1134.5 '
+    positions('example 19', ellip(example + '1'), 'E',
+              inside='40 40, 66 14, 14 66, 61 61, 19 19', outside='67 13, 13 67, 62 62, 18 18')
+    positions('D2 of 2', ellip(example + '2'), 'E',
+              on='77 3, 3 77, 70 70, 10 10', inside='76 4, 69 69', outside='78 2, 71 71, 77 77')
+    positions('D2 of 4', ellip(example + '4.0'), 'E',
+              on='107 33, 33 107, 47 -27, -27 47', inside='106 33, 92 -12', outside='108 33, 107 47')
+    positions('D2 of a half', ellip(example + '0.5'), 'E', on='55 55, 25 25', inside='58 22, 54 54', outside='59 21, 56 56')
+    positions('a thousandth less than 2', ellip(example + '1.999'), 'E', inside='76 4', outside='77 3, 70 70')
+    positions('a thousandth more', ellip(example + '2.001'), 'E', inside='77 3, 70 70', outside='78 2')
+
+    positions('axes of 1 and 3', ellip('0 0 0.25 0 2.25 4'), 'E',
+              on='1 0, -1 0, 0 3, 0 -3', inside='0 0, 0 2', outside='1 1, 2 0, 0 4')
+    positions('a radius of 5', ellip('0 0 1000 0 1000 0.025'), 'E', on='5 0, 3 4, -4 3, 0 -5', inside='3 3', outside='4 4, 6 0')
+    positions('a little less', ellip('0 0 1000 0 1000 0.024'), 'E', inside='3 3, 4 2', outside='5 0, 3 4')
+    positions('a little more', ellip('0 0 1000 0 1000 0.026'), 'E', inside='5 0, 3 4', outside='4 4')
+    positions('c11 a little less', ellip('0 0 999.999 0 1000 0.001'), 'E', on='0 1', inside='0 0', outside='1 0')
+    positions('c11 a little more', ellip('0 0 1000.001 0 1000 0.001'), 'E', on='0 1', inside='1 0', outside='1 1')
+    positions('the least of all', ellip('0 0 0.001 0 0.001 0.001'), 'E', inside='0 0', outside='1 0, 0 1')
+    positions('tilted, times a half', ellip('0 0 1.0 0.5 0.5 2'), 'E', on='1 1, 1 0, -1 -1', inside='0 0', outside='2 1, 1 -1')
+    positions('tilted, times a thousandth', ellip('0 0 0.002 0.001 0.001 1000'), 'E', on='1 1, 1 0', inside='0 0', outside='2 1, 0 1')
+
+    # A radius of 90,509.67; both sides are about 2 to the 83.
+    positions('the greatest of all', ellip('-65536 -65536 2000000 0 2000000.0 4096.0'), 'E',
+              inside='24973 -65536, -65536 24973', outside='24974 -65536, -65536 24974, 65535 65535')
+    positions('the right side is 2 to the 64', ellip('0 0 1073741.824 0 1073741.824 0.016'), 'E',
+              inside='0 0, 131 0', outside='132 0, 16384 0')
+    positions('a rim of 60,000', ellip('0 0 900000.0 0 2000000 4000'), 'E', on='60000 0, -60000 0', inside='59999 0', outside='60001 0')
+    # The right side is less by 4 of about 3.6 times 10 to the 24.
+    positions('less than doubles tell', ellip('0 0 900000.0 0.001 2000000 4000'), 'E', inside='59999 0', outside='60000 0, -60000 0')
+    # Numbers of Fibonacci: the determinant is a millionth, and (28657, 17711), (17711, 10946) are the map of (1, 0), (0, 1).
+    thin = '0 0 1134903.17 701408.733 433494.437 '
+    positions('thin', ellip(thin + '1000'), 'E', on='28657 17711, 17711 10946, -28657 -17711', inside='0 0', outside='46368 28657, 28657 17710, 1 1')
+    positions('thin, a little less', ellip(thin + '999.999'), 'E', inside='0 0', outside='28657 17711, 17711 10946')
+    positions('thin, a little more', ellip(thin + '1000.001'), 'E', inside='28657 17711, 17711 10946', outside='46368 28657')
+    line_fault('too thin', 'ellip E - A B 0 0 701408.733 433494.437 267914.296 1', 11)
+
+    twins = tabs('dims A B', 'ellip Whole - A B 1 2 5 6 9 4', 'ellip Point - A B 1 2 5.0 6.000 9 4.00', 'ellip Other - A B 1 2 0.5 0.6 0.9 40')
+    for x in range(-5, 8):
+        for y in range(-6, 11):
+            for found in (gates.members, gates.outlined):
+                check('in other numbers at %d %d' % (x, y), found(twins, [x, y]) in (set(), words_of('Whole Point Other')), True)
+            check('and by the plan', position(twins, [x, y], 'Point'), position(twins, [x, y], 'Whole'))
+    swapped = tabs('dims A B', 'ellip E - B A 0 0 0.25 0 2.25 4')
+    positions('dimensions in the order of the line', swapped, 'E', on='3 0, 0 1', outside='0 3, 1 1')
+    family = tabs('dims A B', 'rect R - A 0 *', 'ellip E R A B 0 0 0.25 0 2.25 4', 'and C - E !R', 'not N E E', 'poly P E A B 0 3 1 0 0 0')
+    for event, inside, outline in (([0, 3], 'R E P', 'E P'), ([1, 0], 'R E P', 'E P'), ([-1, 0], '', ''), ([0, 2], 'R E P', 'P'), ([0, 4], 'R', '')):
+        check('with parents at %s' % event, gates.members(family, event), words_of(inside))
+        check('outlines with parents at %s' % event, gates.outlined(family, event), words_of(outline))
+        check('and by the plan', position(family, event, 'E') is not None, True)
+    prints('counted', family + tabs('events', '0 3', '1 0', '-1 0', '0 2', '70000 0'), 'R 3', 'E 3', 'C 0', 'N 0', 'P 3', 'taken 4', 'spoilt 1')
+
+
 def words_of(line):
     return {name.encode() for name in line.split()}
 
@@ -582,10 +691,10 @@ def plans():
     form('a body cut short', [2, 1, 1, 0, -1, 3, 1], 7)
     box = [2, 1, 1, 0, -1, 6, 0, 1, 9, 1, 2, 8]
     form('a box', box, None)
-    for place, word, bad in ((2, 0, 2), (2, 7, 2), (2, 12, 2), (3, 1, 3), (3, -1, 3), (4, 0, 4), (4, -2, 4),
+    for place, word, bad in ((2, 0, 2), (2, 7, 5), (2, 12, 2), (3, 1, 3), (3, -1, 3), (4, 0, 4), (4, -2, 4),
                              (5, 0, 5), (5, 4, 5), (5, 27, 5), (6, 2, 6), (6, -1, 6), (9, 0, 9), (7, -65537, 7),
                              (7, 65536, 7), (8, 65537, 8), (8, 1, 8), (8, 0, 8), (8, -65536, 8), (5, 3, 9),
-                             (5, 9, 12), (1, 0, 2), (0, 1, 9), (1, 2, 12)):
+                             (5, 9, 12), (1, 0, 2), (0, 1, 9), (1, 2, 12), (2, 8, 2)):
         words = list(box)
         words[place] = word
         form('box, word %d is %d' % (place, word), words, bad)
@@ -619,6 +728,33 @@ def plans():
     form('ellipse of length 7', [2, 1, 3, 0, -1, 7, 0, 1, 5, 5, 5, 6, 9], 5)
     form('ellipse of one dimension', [2, 1, 3, 0, -1, 8, 1, 1, 5, 5, 5, 6, 9, 4], 7)
 
+    def decimals_with(matrix, d2, end=None):
+        return ([2, 1, 7, 0, -1, 8, 0, 1, 5, 5] + list(matrix) + [d2])[:end]
+
+    form('kind 7', decimals_with((5, 6, 9), 4), None)
+    for matrix in generate.GOOD_DECIMAL_MATRICES:
+        for d2, bad in ((1, None), (4096000, None), (0, 13), (-1, 13), (4096001, 13)):
+            form('kind 7, matrix %d %d %d, D2 %d' % (*matrix, d2), decimals_with(matrix, d2), bad)
+        form('kind 7, matrix %d %d %d, no D2' % matrix, decimals_with(matrix, 1, 13), 13)
+        form('kind 7, matrix %d %d %d, a word left over' % matrix, decimals_with(matrix, 1) + [0], 14)
+    for matrix in generate.BAD_DECIMAL_MATRICES:
+        for d2 in (1, 0, 4096001):
+            form('kind 7, bad matrix %d %d %d, D2 %d' % (*matrix, d2), decimals_with(matrix, d2), 10)
+        form('kind 7, bad matrix %d %d %d, no D2' % matrix, decimals_with(matrix, 1, 13), 10)
+        form('kind 7, bad matrix %d %d %d, no c22' % matrix, decimals_with(matrix, 1, 12), 12)
+    form('kind 7, c11 off range', decimals_with((2000000001, 0, 1), 4), 10)
+    form('kind 7, c12 off range', decimals_with((-5, 2000000001, 9), 4), 11)
+    form('kind 7, c12 off range below', decimals_with((-5, -2000000001, 9), 4), 11)
+    form('kind 7, c22 off range', decimals_with((-5, 0, -2000000001), 4), 12)
+    form('kind 7, no c12', decimals_with((0, 6, 9), 4, 11), 11)
+    form('kind 7, a mean off range', [2, 1, 7, 0, -1, 8, 0, 1, 65536, 0, 4, 6, 9, 4], 8)
+    form('kind 7, a mean in thousandths', [2, 1, 7, 0, -1, 8, 0, 1, 5, 400000, 5, 6, 9, 4], 9)
+    form('kind 7 of length 7', [2, 1, 7, 0, -1, 7, 0, 1, 5, 5, 5, 6, 9], 5)
+    form('kind 7 of length 9', [2, 1, 7, 0, -1, 9, 0, 1, 5, 5, 5, 6, 9, 1, 1], 5)
+    form('kind 7 of one dimension', [2, 1, 7, 0, -1, 8, 1, 1, 5, 5, 5, 6, 9, 4], 7)
+    form('kind 3 with an entry of kind 7', ellipse_with((16777217, 0, 5), 4), 10)
+    form('kind 3 with a D2 of kind 7', ellipse_with((5, 6, 9), 4096000), 13)
+
     polygon = [2, 1, 2, 0, -1, 8, 1, 0, 0, 0, 5, 0, 5, 65535]
     form('a polygon', polygon, None)
     form('vertex off range', polygon[:-1] + [65536], 13)
@@ -641,8 +777,9 @@ def plans():
     form('two operands for not', first + [6, 0, 1, 2, 2, 3], 12)
     form('not', first + [6, 0, 1, 1, 3], None)
     form('second step missing', first, 9)
-    for kind in range(7, 13):
+    for kind in range(8, 13):
         form('kind %d' % kind, [2, 1, kind, 0, -1, 8], 2)
+    form('kind 7, cut off after its length', [2, 1, 7, 0, -1, 8], 6)
     for end in range(len(EXAMPLE_PLAN)):
         form('the example cut off after %d' % end, EXAMPLE_PLAN[:end], end)
 
@@ -772,6 +909,17 @@ def ellipse_said(mx, my, c11, c12, c22, d2, x, y):
     return ON_OUTLINE if distance == d2 else INSIDE if distance < d2 else OUTSIDE
 
 
+def in_thousandths(fields):
+    """Exact means, c11, c12, c22, D2 as words of kind 7."""
+    words = [*fields[:2], *[1000 * number for number in fields[2:]]]
+    check('whole thousandths of %s' % fields, all(word == int(word) for word in words), True)
+    return [int(word) for word in words]
+
+
+# Where a careless counter would answer otherwise: enough of these must be met.
+CARELESS = (generate.wrong_in_64_bits, generate.rim_wrong_in_64_bits, generate.wrong_in_doubles, generate.rim_wrong_in_doubles)
+
+
 def outlines(seed):
     """The polygon's sum against turns round the point; the ellipse against 000's own form."""
     rng = random.Random('%s outlines' % seed)
@@ -789,6 +937,16 @@ def outlines(seed):
         check('ellipse %s at %d %d' % (fields, x, y), gates.ellipse_position(*fields, x, y), wanted)
         check('ellipse %s holds %d %d' % (fields, x, y), gates.ellipse_holds(*fields, x, y), wanted != OUTSIDE)
 
+    def decimals(fields, x, y):
+        wanted = ellipse_said(*fields, x, y)
+        words = in_thousandths(fields)
+        met['decimals', wanted] += 1
+        for otherwise in CARELESS:
+            met[otherwise] += otherwise(words[2:5], words[5], x - words[0], y - words[1])
+        check('decimals %s at %d %d' % (fields, x, y), gates.ellipse_position(*fields, x, y), wanted)
+        check('kind 7 %s at %d %d' % (words, x, y), gates.decimal_ellipse_position(*words, x, y), wanted)
+        check('kind 7 %s holds %d %d' % (words, x, y), gates.decimal_ellipse_holds(*words, x, y), wanted != OUTSIDE)
+
     for _ in range(300):
         table = generate.Table(rng, n=2, span=rng.choice(((-5, 5), (-9, 9), (-65536, 65535))))
         line = table.poly()
@@ -799,17 +957,21 @@ def outlines(seed):
     for _ in range(300):
         table = generate.Table(rng, n=2)
         line = table.ellip()
-        fields = [int(field) for field in line.fields[5:]]
         x_first = line.fields[3] == table.dimensions[0]
         for event in table.events(8):
-            ellipse(fields, *(event if x_first else event[::-1]))
+            if line.places('entry'):
+                ellipse([int(field) for field in line.fields[5:]], *(event if x_first else event[::-1]))
+            else:
+                decimals([Fraction(field.decode()) for field in line.fields[5:]], *(event if x_first else event[::-1]))
     for _ in range(200):
         x, y = rng.choice(((0, 0), (7, -30), (40000, -65536), (65535, 65535)))
         vertices = [value for point in generate.outline_through(rng, x, y) for value in point]
         means, entries, d2 = generate.ellipse_through(rng, x, y)
+        decimal_means, thousandths, decimal_d2 = generate.decimal_through(rng, x, y)
         for event in ((x, y), (x + 1, y), (x - 1, y + 1), (x, y - 1)):
             polygon(vertices, *event)
             ellipse([*means, *entries, d2], *event)
+            decimals([*decimal_means, *[Fraction(word, 1000) for word in (*thousandths, decimal_d2)]], *event)
     # Every place near a small outline.
     for _ in range(60):
         points = generate.outline(rng, lambda: rng.randint(-3, 3))
@@ -822,9 +984,11 @@ def outlines(seed):
         for x in range(-4, 5):
             for y in range(-4, 5):
                 ellipse([0, 0, *matrix, d2], x, y)
-    for shape in ('polygon', 'ellipse'):
+    for shape, least in (('polygon', 400), ('ellipse', 300), ('decimals', 100)):
         for said in (OUTSIDE, INSIDE, ON_OUTLINE):
-            check('%s, %s was met' % (shape, said), met[shape, said] > 400, True)
+            check('%s, %s was met' % (shape, said), met[shape, said] > least, True)
+    for otherwise in CARELESS:
+        check('points were met where %s' % otherwise.__name__, met[otherwise] > 10, True)
 
 
 def accepted_tables(seed, count):
@@ -898,7 +1062,7 @@ def printed_by_name(output):
 def steps_in_order(words):
     """Before each step no lower region is both unwritten and ready."""
     steps = gates.plan_steps(words)
-    waits = {region: {parent} - {-1} | ({word // 2 for word in body} if kind >= 4 else set())
+    waits = {region: {parent} - {-1} | ({word // 2 for word in body} if kind in (4, 5, 6) else set())
              for kind, region, parent, body in steps}
     written = set()
     for _, region, _, _ in steps:
@@ -949,11 +1113,36 @@ def outline_bits(words, event):
     """The steps on whose shape's outline an event is, member or not, by the other ways of reckoning."""
     bits = 0
     for kind, region, _, body in gates.plan_steps(words):
-        if kind in (2, 3):
-            said = polygon_said(body[2:], event[body[0]], event[body[1]]) if kind == 2 else ellipse_said(
-                *body[2:], event[body[0]], event[body[1]])
-            bits |= (said == ON_OUTLINE) << region
+        if kind == 2:
+            bits |= (polygon_said(body[2:], event[body[0]], event[body[1]]) == ON_OUTLINE) << region
+        elif kind in (3, 7):
+            numbers = [Fraction(word, 1000) for word in body[4:]] if kind == 7 else body[4:]
+            bits |= (ellipse_said(*body[2:4], *numbers, event[body[0]], event[body[1]]) == ON_OUTLINE) << region
     return bits
+
+
+def asked(seed, count):
+    """The questions have kind 7 in plans that pass and in others, and events at which a careless counter would be seen."""
+    met = collections.Counter()
+    for number in range(count):
+        _, question = generate.request(seed, number)
+        if question[0] == 'compile':
+            words = gates.compile_table(question[2], question[1])[2] or []
+            met['compiled'] += 7 in [step[0] for step in gates.plan_steps(words)]
+            continue
+        words, (refusal, _) = question[1], gates.check_plan(question[1])
+        met['%s, refused with %d' % (question[0], refusal)] += 7 in (words if refusal else [step[0] for step in gates.plan_steps(words)])
+        if question[0] == 'judge' and refusal == 0 and len(question[2]) == words[0] and not gates.is_spoilt(question[2]):
+            for kind, _, _, body in gates.plan_steps(words):
+                if kind == 7:
+                    dx, dy = question[2][body[0]] - body[2], question[2][body[1]] - body[3]
+                    for otherwise in CARELESS:
+                        met[otherwise.__name__] += otherwise(body[4:7], body[7], dx, dy)
+    for what in ('compiled', 'check, refused with 0', 'check, refused with 22', 'judge, refused with 0', 'count, refused with 0',
+                 'wrong_in_64_bits'):
+        check('questions with kind 7, %s' % what, met[what] > count // 100, True)
+    for what in ('rim_wrong_in_64_bits', 'wrong_in_doubles', 'rim_wrong_in_doubles'):
+        check('questions with kind 7, %s' % what, met[what] > 0, True)
 
 
 def random_plans(seed, count):
@@ -989,6 +1178,7 @@ def main():
     whole_tables()
     membership()
     on_outlines()
+    decimals()
     plans()
     program()
     outlines(options.seed)
@@ -996,6 +1186,7 @@ def main():
     circles(options.seed)
     generated(options.seed, 5 * options.tables)
     random_plans(options.seed, 5 * options.tables)
+    asked(options.seed, 5 * options.tables)
     print('%d passed, %d failed' % (passed, failed))
     sys.exit(1 if failed else 0)
 
