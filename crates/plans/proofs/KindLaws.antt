@@ -6,12 +6,14 @@ use Prim.Native.Nat.{ℕ, _*_, _/_, _%_, _<_, _≤_}
 use native.Mathlib.Omega.{arith}
 use lib.Dec.{eqb, ltb, leb}
 use lib.IntN.{ℤ, pos, negsuc, negℤ, natAbs}
-use lib.Signed.{leZ}
+use lib.Signed.{leZ, _≤ℤ_}
 use borrow.Author.Tests.{le-leb, leb-true, ltb-true, eqb-true}
 use Rattle.integers.specs.Range.{inRange}
+use Rattle.integers.proofs.Order.{zarith}
 use Rattle.plans.specs.Words.{word, number, onScale}
 use Rattle.plans.specs.Form.{earlier, dimensionGood, boxWord, polygonWord, entry, matrixWord, ellipseWord, operandWord, bodyWord}
 use Rattle.plans.specs.Kinds.{kindOf, kindNumber, known, spans, spansBy, lengthGood}
+use Rattle.plans.specs.Inner.Reader.{isEllipse, mostEntry, mostDistance}
 use Rattle.plans.specs.declared.Kind.{Kind}
 use Rattle.plans.specs.declared.Kind.the-variants.{Box, Polygon, Ellipse, And, Or, Not, DecimalEllipse, Unknown}
 use Rattle.plans.proofs.IndexLaws.{clash, and-both}
@@ -155,3 +157,23 @@ module _ (n k set : ℕ) (narrow : n ≤ 8) (few : k ≤ 64) (body : List ℤ) w
   body-fits Not i = operand-fits i
   body-fits DecimalEllipse i = ellipse-fits (pos 2000000000) (pos 4096000) (omega arith) (omega arith) (omega arith) i
   body-fits Unknown i = λ e. absurd (clash (sym e))
+
+-- ---- the two kinds of ellipse
+
+pub most-entry-from : (kind : Kind) → pos 0 ≤ℤ mostEntry kind
+most-entry-from kind = go (eqb (kindNumber kind) 7)
+  where
+    go : (b : Bool) → pos 0 ≤ℤ cond b (pos 2000000000) (pos 16777216)
+    go true = omega zarith
+    go false = omega zarith
+
+pub ellipse-is : (n k set : ℕ) (body : List ℤ) (i : ℕ) (kind : Kind) → isEllipse kind ≡ true
+    → ellipseWord (mostEntry kind) (mostDistance kind) n body i ≡ bodyWord kind n k set body i
+ellipse-is n k set body i Box e = absurd (clash (sym e))
+ellipse-is n k set body i Polygon e = absurd (clash (sym e))
+ellipse-is n k set body i Ellipse e = refl
+ellipse-is n k set body i And e = absurd (clash (sym e))
+ellipse-is n k set body i Or e = absurd (clash (sym e))
+ellipse-is n k set body i Not e = absurd (clash (sym e))
+ellipse-is n k set body i DecimalEllipse e = refl
+ellipse-is n k set body i Unknown e = absurd (clash (sym e))
