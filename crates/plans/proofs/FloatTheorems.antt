@@ -8,7 +8,7 @@ use native.Mathlib.Decide.{decLt, ℕ-discrete}
 use lib.IntN.{ℤ}
 use lib.ListN.{length}
 use lib.Dec.{ltb, leb, eqb}
-use borrow.Author.Tests.{lt-ltb, le-ltb, eq-eqb, ne-eqb, le-leb, leb-true, ltb-true}
+use borrow.Author.Tests.{lt-ltb, le-ltb, eq-eqb, ne-eqb, eqb-true, ltb-true, not-true, not-false}
 use Rattle.plans.specs.Bits.{withBit}
 use Rattle.plans.specs.Refusals.{Verdict, passed, refused}
 use Rattle.plans.specs.Kinds.{kindNumber, known, spans}
@@ -80,6 +80,10 @@ module _ (f : Float) (less : KnowsLess f) where
     unfolding headWordFor
     head-for set at j = differ-at (eqb j 0) (f .knows (kindAt p at)) (known (kindAt p at)) _ (kind-for (kindAt p at))
 
+    kind-good : (set at : ℕ) → headWord p k set at 0 ≡ true → known (kindAt p at) ≡ true
+    unfolding headWordFor
+    kind-good set at e = e
+
     steps-for : (left set at i : ℕ) → at ≤ i
         → stepsWordFor f left p n k set at i ≡ (stepsWord left p n k set at i && not (newStepWord f left p at i))
     unfolding stepsWordFor newStepWord
@@ -99,6 +103,30 @@ module _ (f : Float) (less : KnowsLess f) where
             rw (le-ltb i (at + 4) (omega arith), le-ltb i (nextAt p at) (omega arith))
             (later (omega arith))
 
+    -- a new word that is good today is the word of a kind that the float does not know
+    steps-kind : (left set at i : ℕ) → stepsWord left p n k set at i ≡ true → newStepWord f left p at i ≡ true
+        → (f .knows (kindAt p i) ≡ false) × (known (kindAt p i) ≡ true)
+    unfolding stepsWordFor newStepWord
+    steps-kind zero set at i g e = absurd (clash (sym e))
+    steps-kind (suc left) set at i g e =
+        go (decLt i (nextAt p at)) (next-later p at) g e (steps-kind left (withBit set (regionAt p at)) (nextAt p at) i)
+      where
+        here : i ≡ at → stepsWord (suc left) p n k set at i ≡ true → not (f .knows (kindAt p at)) ≡ true
+            → (f .knows (kindAt p i) ≡ false) × (known (kindAt p i) ≡ true)
+        here q good new =
+            let zero-th : i - at ≡ 0 = omega arith in
+            (rw q (not-true _ new), rw q (kind-good set at (rw (lt-ltb i (at + 4) (omega arith), zero-th) at good)))
+
+        go : Dec (i < nextAt p at) → at + 4 ≤ nextAt p at → stepsWord (suc left) p n k set at i ≡ true → newStepWord f (suc left) p at i ≡ true
+            → (stepsWord left p n k (withBit set (regionAt p at)) (nextAt p at) i ≡ true → newStepWord f left p (nextAt p at) i ≡ true
+            → (f .knows (kindAt p i) ≡ false) × (known (kindAt p i) ≡ true))
+            → (f .knows (kindAt p i) ≡ false) × (known (kindAt p i) ≡ true)
+        go (yes c) b good new later =
+            let both = and-both (eqb i at) (not (f .knows (kindAt p at))) (rw (lt-ltb i (nextAt p at) c) at new) in
+            here (eqb-true i at (both .0)) good (both .1)
+        go (no c) b good new later =
+            later (rw (le-ltb i (at + 4) (omega arith), le-ltb i (nextAt p at) (omega arith)) at good) (rw (le-ltb i (nextAt p at) (omega arith)) at new)
+
   module _ (p : List ℤ) where
     new-later : (i : ℕ) → i < 2 → newWord f p i ≡ false
     unfolding newWord newStepWord nextAt
@@ -112,6 +140,15 @@ module _ (f : Float) (less : KnowsLess f) where
         → stepsWordFor f (stepCount p) p (width p) (stepCount p) 0 2 i ≡ (stepsWord (stepCount p) p (width p) (stepCount p) 0 2 i && not (newWord f p i))
     unfolding newWord
     steps-are i h = steps-for p (width p) (stepCount p) (stepCount p) 0 2 i h
+
+    kind-at-new : (i : ℕ) → newWord f p i ≡ true → wordGood p i ≡ true → (f .knows (kindAt p i) ≡ false) × (known (kindAt p i) ≡ true)
+    unfolding wordGoodFor newWord
+    kind-at-new i e g = go (decLt i 2)
+      where
+        go : Dec (i < 2) → (f .knows (kindAt p i) ≡ false) × (known (kindAt p i) ≡ true)
+        go (yes h) = absurd (clash (sym e ∙ new-later i h))
+        go (no h) =
+            steps-kind p (width p) (stepCount p) (stepCount p) 0 2 i (rw (ne-eqb i 0 (λ q. omega arith), ne-eqb i 1 (λ q. omega arith)) at g) e
 
     pub word-for : (i : ℕ) → wordGoodFor f p i ≡ (wordGood p i && oldWord f p i)
     unfolding oldWord wordGoodFor
@@ -172,3 +209,20 @@ module _ (f : Float) (less : KnowsLess f) where
 
         pub refused-at-new : checkFor f p ≡ refused 22 place
         refused-at-new = new-refused holds-it ∙ ap (refused 22) lowest-is
+
+      -- the lowest new word is that of a kind which today knows and the float does not
+      module _ (new : holdsNew f p ≡ true) where
+        inside : lowestNew f p < length p
+        unfolding holdsNew
+        inside = ltb-true (lowestNew f p) (length p) new
+
+        is-new : newWord f p (lowestNew f p) ≡ true
+        unfolding lowestNew oldWord
+        is-new = not-false _ (first-at (oldWord f p) 0 (length p) (let l = inside in omega arith))
+
+        pub new-kind : (f .knows (kindAt p (lowestNew f p)) ≡ false) × (known (kindAt p (lowestNew f p)) ≡ true)
+        new-kind = kind-at-new (lowestNew f p) is-new (passed→form today p ok .1 .words (lowestNew f p) inside)
+
+-- for a float of the first issue: kind 7
+pub first-at-kind-7 : (p : List ℤ) → checkOf p ≡ passed → holdsNew first p ≡ true → kindAt p (lowestNew first p) ≡ DecimalEllipse
+first-at-kind-7 p ok new = let k = new-kind first first-less p ok new in new-to-first (kindAt p (lowestNew first p)) (k .1) (k .0)
