@@ -5,15 +5,14 @@ use mathlib.Core.List.{List, [], _∷_, _++_}
 use Prim.Native.Nat.{ℕ, zero, suc, _+_, _-_, _*_, _≤_, _<_, min}
 use native.Mathlib.Omega.{arith}
 use lib.Dec.{eqb}
-use lib.IntN.{ℤ, natAbs}
+use lib.IntN.{ℤ, pos, natAbs}
 use lib.ListN.{length, getD, take, drop-of-length-le}
 use borrow.Author.Tests.{ne-eqb}
 use Rattle.integers.specs.Range.{inRange}
 use Rattle.text.specs.Bytes.{bytes}
-use Rattle.text.specs.Numbers.{digitsValue}
+use Rattle.text.specs.Numbers.{digitsValue, clampTo}
 use Rattle.decimals.specs.Decimals.{pointAt, beforePoint, afterPoint, unsignedThousandths, thousandths, isDecimal}
-use Rattle.text.specs.Inner.Kept.{clampTo}
-use Rattle.decimals.specs.Inner.Kept.{readDecimal}
+use Rattle.decimals.specs.Inner.Kept.{readDecimal, kept}
 use Rattle.text.specs.Inner.Places.{findFrom}
 use Rattle.decimals.specs.declared.Decimal.the-variants.{Bad, Thousandths}
 use Rattle.text.proofs.ClampLaws.{within-clampTo, clampTo-within}
@@ -58,6 +57,15 @@ module _ (s : List ℕ) where
   pub decimal-value : isDecimal s ≡ true → readDecimal s ≡ Thousandths (clampTo 2147483647 (thousandths s))
   unfolding readDecimal
   decimal-value e = rw e
+
+  -- the thousandths kept of what is read
+  pub kept-decimal : kept (readDecimal s) ≡ cond (isDecimal s) (clampTo 2147483647 (thousandths s)) (pos 0)
+  unfolding readDecimal
+  kept-decimal = go (isDecimal s)
+    where
+      go : (b : Bool) → kept (cond b (Thousandths (clampTo 2147483647 (thousandths s))) Bad) ≡ cond b (clampTo 2147483647 (thousandths s)) (pos 0)
+      go true = refl
+      go false = refl
 
   pub bad-decimal : readDecimal s ≡ Bad → isDecimal s ≡ false
   unfolding readDecimal

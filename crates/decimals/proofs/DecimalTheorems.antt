@@ -12,9 +12,8 @@ use lib.Seq.{take-all, take-append-seam, drop-append-add}
 use lib.Signed.{leZ}
 use borrow.Author.Tests.{ltb-true, ltb-false, leb-true, eqb-true, eqb-false, lt-ltb, le-ltb, ne-eqb, not-true}
 use Rattle.text.specs.Bytes.{bytes, same, every}
-use Rattle.text.specs.Numbers.{isDigit, isNegative, unsigned, isPositive, isNumber, digitsValue, signed, numberValue}
+use Rattle.text.specs.Numbers.{isDigit, isNegative, unsigned, isPositive, isNumber, digitsValue, signed, numberValue, clampTo}
 use Rattle.decimals.specs.Decimals.{pointAt, hasPoint, beforePoint, afterPoint, unsignedThousandths, thousandths, isWhole, isOneToThree, isMinusZero, isDecimal}
-use Rattle.text.specs.Inner.Kept.{clampTo}
 use Rattle.decimals.specs.Inner.Kept.{readDecimal}
 use Rattle.decimals.specs.declared.Decimal.the-variants.{Bad, Thousandths}
 use Rattle.text.proofs.TestLaws.{true≢false, and-left, and-right, and-false, or-true, passed-or-failed, leb-iff}
@@ -235,6 +234,36 @@ negative-below s d n = rw n (below (unsignedThousandths (unsigned s)) (go (passe
         let e : isNumber s ≡ true = rw t at d in
         omega (arith, none-value s t, positive-some (unsigned s) (sym (negative-number s n) ∙ e))
 
+-- ── 01's numbers have no point ──
+
+digits-plain : (s : List ℕ) → every isDigit s ≡ true → length s ≤ pointAt s
+digits-plain [] h = omega arith
+digits-plain (x ∷ s) h =
+    let l = leb-true 48 x (and-left (leb 48 x) (leb x 57) (and-left (isDigit x) (every isDigit s) h)) in
+    rw (ne-eqb x 46 (λ e. omega arith)) (omega (arith, digits-plain s (and-right (isDigit x) (every isDigit s) h)))
+
+signed-plain : (s : List ℕ) → every isDigit (unsigned s) ≡ true → length s ≤ pointAt s
+unfolding unsigned isNegative
+signed-plain [] h = omega arith
+signed-plain (x ∷ s) h = go (passed-or-failed (eqb x 45))
+  where
+    go : (eqb x 45 ≡ true) ⊎ (eqb x 45 ≡ false) → length (x ∷ s) ≤ pointAt (x ∷ s)
+    go (inl t) =
+        let d : every isDigit s ≡ true = rw t at h in
+        rw (ne-eqb x 46 (λ e. omega (arith, eqb-true x 45 t))) (omega (arith, digits-plain s d))
+    go (inr t) = digits-plain (x ∷ s) (rw t at h)
+
+pub number-plain : (s : List ℕ) → isNumber s ≡ true → hasPoint s ≡ false
+unfolding isNumber isPositive hasPoint
+number-plain s n = go (passed-or-failed (same s (bytes "0")))
+  where
+    go : (same s (bytes "0") ≡ true) ⊎ (same s (bytes "0") ≡ false) → hasPoint s ≡ false
+    go (inl z) = rw (same-eq s (bytes "0") z) refl
+    go (inr z) =
+        let u = unsigned s in
+        let p : (ltb 48 (getD u 0 0) && every isDigit u) ≡ true = rw z at n in
+        le-ltb (pointAt s) (length s) (signed-plain s (and-right (ltb 48 (getD u 0 0)) (every isDigit u) p))
+
 -- ── Which numbers may have decimals ──
 
 module _ (s : List ℕ) (e : isNegative s ≡ false) where
@@ -352,6 +381,16 @@ module _ (s : List ℕ) (k : ℕ) (h : hasPoint s ≡ false) (l : 1 ≤ k) (m : 
   pub zeros-thousandths : thousandths (s ++ (46 ∷ replicate k 48)) ≡ thousandths s
   unfolding thousandths
   zeros-thousandths = rw (zeros-value, point-sign s (replicate k 48) h, none-value s h)
+
+-- s with so many zeros behind a point; with none there is no point
+abbrev pub withZeros : List ℕ → ℕ → List ℕ
+withZeros s zero = s
+withZeros s (suc k) = s ++ (46 ∷ replicate (suc k) 48)
+
+-- a whole number has in thousandths 1000 times its value, with zeros or without
+pub zeros-whole : (s : List ℕ) (k : ℕ) → isNumber s ≡ true → k ≤ 3 → thousandths (withZeros s k) ≡ pos 1000 *ℤ numberValue s
+zeros-whole s zero n m = none-thousandths s (number-plain s n)
+zeros-whole s (suc k) n m = let h = number-plain s n in zeros-thousandths s (suc k) h (omega arith) m ∙ none-thousandths s h
 
 -- ── Worked examples ──
 

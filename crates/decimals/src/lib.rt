@@ -6,7 +6,7 @@ ghost use lib.ListN.{getD, take};
 ghost use Rattle.text.specs.Bytes.{bytes};
 ghost use Rattle.text.specs.Numbers.{digitsValue};
 ghost use Rattle.decimals.specs.Decimals.{hasPoint, beforePoint, afterPoint, unsignedThousandths, isWhole, isOneToThree, isMinusZero, isDecimal};
-ghost use Rattle.decimals.specs.Inner.Kept.{readDecimal};
+ghost use Rattle.decimals.specs.Inner.Kept.{kept, readDecimal};
 use text::lines::find;
 use text::names::same;
 use text::numbers::all_digits;
@@ -118,4 +118,14 @@ pub fn read_decimal(s: &[u8]) -> Decimal
         return Decimal::Thousandths(signed(negative(s), unsigned_thousandths(unsigned(s))));
     }
     Decimal::Bad
+}
+
+// The thousandths kept of what was read, 0 for no number.
+pub fn kept(decimal: Decimal) -> i32
+    ensures { λ r. ⌜ r ≡ kept decimal ⌝ }
+{
+    match decimal {
+        Decimal::Bad => 0,
+        Decimal::Thousandths(z) => z,
+    }
 }

@@ -115,7 +115,7 @@ unfolding tableCases tableOutlineCases sameWords answer inGate onGate example ex
     Form.matrixGood Indices.all Indices.any
     Indices.howMany Indices.firstBad Words.word Range.inRange Words.onScale Ellipse.inEllipse Judging.valueGood Judging.taken Polygon.side Polygon.between
     Polygon.onEdge Polygon.turn Polygon.crossing Polygon.edgesFrom Polygon.edges Polygon.onSome Polygon.crossings Polygon.inPolygon Bytes.same Lines.fields
-    Lines.lines Lines.endsInLF Names.isName Numbers.isNegative Numbers.unsigned Numbers.isPositive Numbers.isNumber Numbers.numberValue Numbers.clamp
+    Lines.lines Lines.endsInLF Names.isName Numbers.isNegative Numbers.unsigned Numbers.isPositive Numbers.isNumber Numbers.numberValue Numbers.clampTo Numbers.clamp
     Output.over Kinds.kindNamed Kinds.isStar Kinds.isNone Kinds.isParent Kinds.isComplement Kinds.operandName Kinds.isOperand Kinds.dimensionOf Kinds.valueOf
     Meaning.inPoly Meaning.inEllip Encoding.minWord Encoding.maxWord Encoding.rectWord Encoding.planeWord Encoding.lowerEnd Encoding.upperEnd
     Encoding.quadrantMin Encoding.quadrantMax Encoding.quadrantWord Meaning.parentOf Meaning.gateOf Quads.countDigit Quads.dividerAt Quads.dividerValue

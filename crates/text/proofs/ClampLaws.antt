@@ -7,8 +7,7 @@ use lib.IntN.{ℤ, pos, negsuc, natAbs}
 use lib.Signed.{leZ}
 use borrow.Author.Tests.{leb-true}
 use Rattle.integers.specs.Range.{inRange}
-use Rattle.text.specs.Numbers.{signed}
-use Rattle.text.specs.Inner.Kept.{clampTo}
+use Rattle.text.specs.Numbers.{signed, clampTo}
 use Rattle.text.proofs.TestLaws.{true≢false, and-left, and-right, leb-iff}
 
 pub clampTo-signed : (b : ℕ) → 0 < b → (minus : Bool) (n : ℕ) → clampTo b (signed minus n) ≡ signed minus (min n b)

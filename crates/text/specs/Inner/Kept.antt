@@ -1,8 +1,8 @@
 -- What reading a number answers, and the value that is kept of it.
 use mathlib.Core.Bool.{cond}
 use mathlib.Core.List.{List}
-use Prim.Native.Nat.{ℕ, _-_, min}
-use lib.IntN.{ℤ, pos, negsuc}
+use Prim.Native.Nat.{ℕ}
+use lib.IntN.{ℤ, pos}
 use Rattle.text.specs.Numbers.{isNumber, numberValue, clamp}
 use Rattle.text.specs.declared.numbers.Number.{Number}
 use Rattle.text.specs.declared.numbers.Number.the-variants.{Bad, Value}
@@ -15,8 +15,3 @@ readNumber s = cond (isNumber s) (Value (clamp (numberValue s))) Bad
 abbrev pub kept : Number → ℤ
 kept Bad = pos 0
 kept (Value v) = v
-
--- a value, or ±b where it lies beyond, for b above 0
-unfoldable pub clampTo : ℕ → ℤ → ℤ
-clampTo b (pos n) = pos (min n b)
-clampTo b (negsuc n) = negsuc (min n (b - 1))
