@@ -7,11 +7,11 @@ use lib.IntN.{ℤ, pos, negsuc}
 use lib.ListN.{length}
 use Rattle.text.specs.Bounded.{tab}
 use Rattle.plans.specs.declared.Kind.{Kind}
-use Rattle.plans.specs.declared.Kind.the-variants.{Box, Polygon, Ellipse}
-use Rattle.gates.specs.Kinds.{fieldAt, isStar, dimensionOf, valueOf}
+use Rattle.plans.specs.declared.Kind.the-variants.{Box, Polygon, Ellipse, DecimalEllipse}
+use Rattle.gates.specs.Kinds.{fieldAt, isStar, dimensionOf, valueOf, thousandthsOf}
 use Rattle.gates.specs.Quads.{dividerCount, dividerField, valueCount, dividerValue, representative}
 use Rattle.gates.specs.Tiling.{interval}
-use Rattle.gates.specs.Gate.{Leaf, rect, poly, ellip, quadrant}
+use Rattle.gates.specs.Gate.{Leaf, rect, poly, ellip, decimalEllip, quadrant}
 
 -- 01: "A missing min is −65,536, a missing max 65,536"
 unfoldable pub minWord : List ℕ → ℤ
@@ -29,6 +29,10 @@ rectWord head fs i =
 -- polygon: two dimensions, vertices; ellipse: fields as in the table line
 unfoldable pub planeWord : List (List ℕ) → List (List ℕ) → ℕ → ℤ
 planeWord head fs i = cond (ltb i 2) (pos (dimensionOf head (fieldAt fs (3 + i)))) (valueOf (fieldAt fs (3 + i)))
+
+-- ellipse with decimals (02: "laid out as kind 3 with those four in thousandths")
+unfoldable pub decimalWord : List (List ℕ) → List (List ℕ) → ℕ → ℤ
+decimalWord head fs i = cond (ltb i 4) (planeWord head fs i) (thousandthsOf (fieldAt fs (3 + i)))
 
 -- the ends of interval k of divider t
 unfoldable pub lowerEnd : List (List ℕ) → ℕ → ℕ → ℤ
@@ -56,10 +60,12 @@ abbrev pub leafKind : Leaf → Kind
 leafKind (rect head fs) = Box
 leafKind (poly head fs) = Polygon
 leafKind (ellip head fs) = Ellipse
+leafKind (decimalEllip head fs) = DecimalEllipse
 leafKind (quadrant head fs q) = Box
 
 abbrev pub leafWords : Leaf → List ℤ
 leafWords (rect head fs) = tab (rectWord head fs) (length fs - 3)
 leafWords (poly head fs) = tab (planeWord head fs) (length fs - 3)
 leafWords (ellip head fs) = tab (planeWord head fs) (length fs - 3)
+leafWords (decimalEllip head fs) = tab (decimalWord head fs) (length fs - 3)
 leafWords (quadrant head fs q) = tab (quadrantWord head fs q) (3 * dividerCount fs)

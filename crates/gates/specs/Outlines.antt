@@ -4,9 +4,10 @@ use mathlib.Core.List.{List}
 use Prim.Native.Nat.{ℕ}
 use lib.IntN.{ℤ}
 use Rattle.counter.specs.Positions.{isOnOutline, polygonPosition, ellipsePosition}
-use Rattle.gates.specs.Kinds.{fieldAt, valueOf}
+use Rattle.counter.specs.DecimalEllipse.{decimalEllipsePosition}
+use Rattle.gates.specs.Kinds.{fieldAt, valueOf, thousandthsOf}
 use Rattle.gates.specs.Meaning.{valueUnder, verticesOf}
-use Rattle.gates.specs.Gate.{Event, Leaf, rect, poly, ellip, quadrant}
+use Rattle.gates.specs.Gate.{Event, Leaf, rect, poly, ellip, decimalEllip, quadrant}
 
 unfoldable pub onPoly : List (List ℕ) → List (List ℕ) → Event → Bool
 onPoly head fs e = isOnOutline (polygonPosition (verticesOf fs) (valueUnder head e (fieldAt fs 3)) (valueUnder head e (fieldAt fs 4)))
@@ -17,9 +18,17 @@ onEllip head fs e =
     isOnOutline (ellipsePosition (number 5) (number 6) (number 7) (number 8) (number 9) (number 10)
     (valueUnder head e (fieldAt fs 3)) (valueUnder head e (fieldAt fs 4)))
 
+unfoldable pub onDecimalEllip : List (List ℕ) → List (List ℕ) → Event → Bool
+onDecimalEllip head fs e =
+    let mean : ℕ → ℤ = λ k. valueOf (fieldAt fs k) in
+    let number : ℕ → ℤ = λ k. thousandthsOf (fieldAt fs k) in
+    isOnOutline (decimalEllipsePosition (mean 5) (mean 6) (number 7) (number 8) (number 9) (number 10)
+    (valueUnder head e (fieldAt fs 3)) (valueUnder head e (fieldAt fs 4)))
+
 -- boxes and quadrants have none
 abbrev pub outlineHolds : Leaf → Event → Bool
 outlineHolds (rect head fs) e = false
 outlineHolds (poly head fs) e = onPoly head fs e
 outlineHolds (ellip head fs) e = onEllip head fs e
+outlineHolds (decimalEllip head fs) e = onDecimalEllip head fs e
 outlineHolds (quadrant head fs q) e = false
