@@ -6,7 +6,11 @@ ghost use lib.ListN.{length, drop};
 ghost use Rattle.text.specs.Bytes.{same as sameBytes};
 ghost use Rattle.text.specs.Lines.{fields};
 ghost use Rattle.gates.specs.Inner.Regions.{combines as combinesOf};
-ghost use Rattle.gates.specs.Kinds.{kindNamed, lineKind, stepKind, isUnknown, isQuad, isStar, isNone, isParent, isComplement, operandName, isOperand, dimensionOf, valueOf};
+ghost use Rattle.gates.specs.Kinds.{carriesPoint, kindNamed, lineKind, stepKind, isUnknown, isQuad, isStar, isNone, isParent, isComplement, operandName, isOperand, dimensionOf, valueOf, thousandthsOf};
+ghost use Rattle.gates.specs.declared.LineKind.the-variants.{Ellip, DecimalEllip};
+use decimals::has_point;
+use decimals::kept as kept_thousandths;
+use decimals::read_decimal;
 use gates::LineKind;
 use plans::Kind;
 use plans::form::is_known;
@@ -38,14 +42,32 @@ fn kind_or(x: &[u8], name: &[u8], kind: LineKind, other: LineKind) -> LineKind
     if same(x, name) { kind } else { other }
 }
 
-fn kind_named(x: &[u8]) -> LineKind
-    ensures { λ r. ⌜ r ≡ kindNamed (now (x .entry)) ⌝ }
+// Whether an ellipse's c11, c12, c22 or D² carries a point.
+fn carries_point(line: &[u8]) -> bool
+    ensures { λ r. ⌜ r ≡ carriesPoint (fields (now (line .entry))) ⌝ }
+{
+    has_point(field(line, 7))
+        | has_point(field(line, 8))
+        | has_point(field(line, 9))
+        | has_point(field(line, 10))
+}
+
+// The kind of an ellipse, with or without decimals.
+fn ellip_kind(decimals: bool) -> LineKind
+    ensures { λ r. ⌜ r ≡ cond decimals DecimalEllip Ellip ⌝ }
+{
+    if decimals { LineKind::DecimalEllip } else { LineKind::Ellip }
+}
+
+// The kind with a name; of an ellipse, with or without decimals.
+fn kind_named(decimals: bool, x: &[u8]) -> LineKind
+    ensures { λ r. ⌜ r ≡ kindNamed decimals (now (x .entry)) ⌝ }
 {
     let kind = kind_or(x, b"not", LineKind::Not, LineKind::Unknown);
     let kind = kind_or(x, b"or", LineKind::Or, kind);
     let kind = kind_or(x, b"and", LineKind::And, kind);
     let kind = kind_or(x, b"quad", LineKind::Quad, kind);
-    let kind = kind_or(x, b"ellip", LineKind::Ellip, kind);
+    let kind = kind_or(x, b"ellip", ellip_kind(decimals), kind);
     let kind = kind_or(x, b"poly", LineKind::Poly, kind);
     kind_or(x, b"rect", LineKind::Rect, kind)
 }
@@ -54,7 +76,7 @@ fn kind_named(x: &[u8]) -> LineKind
 pub fn kind_of(line: &[u8]) -> LineKind
     ensures { λ r. ⌜ r ≡ lineKind (fields (now (line .entry))) ⌝ }
 {
-    kind_named(field(line, 0))
+    kind_named(carries_point(line), field(line, 0))
 }
 
 // The kind of the steps that a line makes.
@@ -65,6 +87,7 @@ pub fn step_kind(kind: LineKind) -> Kind
         LineKind::Rect => Kind::Box,
         LineKind::Poly => Kind::Polygon,
         LineKind::Ellip => Kind::Ellipse,
+        LineKind::DecimalEllip => Kind::DecimalEllipse,
         LineKind::Quad => Kind::Box,
         LineKind::And => Kind::And,
         LineKind::Or => Kind::Or,
@@ -86,6 +109,7 @@ pub fn is_quad(kind: LineKind) -> bool
         LineKind::Rect => false,
         LineKind::Poly => false,
         LineKind::Ellip => false,
+        LineKind::DecimalEllip => false,
         LineKind::Quad => true,
         LineKind::And => false,
         LineKind::Or => false,
@@ -150,6 +174,13 @@ pub fn value_of(x: &[u8]) -> i32
     ensures { λ r. ⌜ r ≡ valueOf (now (x .entry)) ⌝ }
 {
     kept(read_number(x))
+}
+
+// The value of a number that may have decimals, in thousandths.
+pub fn thousandths_of(x: &[u8]) -> i32
+    ensures { λ r. ⌜ r ≡ thousandthsOf (now (x .entry)) ⌝ }
+{
+    kept_thousandths(read_decimal(x))
 }
 
 // How many names the head line has.

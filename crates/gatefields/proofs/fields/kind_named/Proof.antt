@@ -9,7 +9,8 @@ unfolding kindNamed
 returns c =
     let poly = c .before .before in
     let ellip = poly .before .before in
-    let quad = ellip .before .before in
+    let ellip-told = ellip .before in
+    let quad = ellip-told .before .before in
     let and = quad .before .before in
     let or = and .before .before in
     let not = or .before .before in
@@ -17,6 +18,7 @@ returns c =
       c .kind-or7 .ensures,
       poly .kind-or6 .ensures,
       ellip .kind-or5 .ensures,
+      ellip-told .ellip-kind .ensures,
       quad .kind-or4 .ensures,
       and .kind-or3 .ensures,
       or .kind-or2 .ensures,
@@ -36,6 +38,7 @@ kind-named-spec =
     (λ c. search needs)
     (λ c κs. search needs)
     (λ c. search needs)
+    (λ c κs. search needs)
     (λ c κs. search needs)
     (λ c. search needs)
     (λ c κs. search needs)
