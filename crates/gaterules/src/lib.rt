@@ -3,9 +3,11 @@ ghost use mathlib.Core.Path.{_≡_};
 ghost use Prim.Native.Nat.{_+_, _≤_, min};
 ghost use lib.ListN.{drop};
 ghost use Rattle.text.specs.Lines.{fields};
-ghost use Rattle.gates.proofs.AcceptedLaws.{Bound};
+ghost use Rattle.gates.proofs.AcceptedLaws.{Bound, DecimalBound};
 ghost use Rattle.gates.specs.Rules.{rectRule, polyRule, ellipRule, dividerRule, dividerOf, quadRule, bodyRule, ruleOf, isDimension};
-ghost use Rattle.gates.specs.Rules.{dimensionPasses, numberRefusal, optionalRefusal, fieldRefusal, fieldsRefusal, unless as unlessOf, repeated as isRepeated, uncrossed as risesOf};
+ghost use Rattle.gates.specs.Rules.{dimensionPasses, numberRefusal, decimalRefusal, optionalRefusal, fieldRefusal, fieldsRefusal, unless as unlessOf, repeated as isRepeated, uncrossed as risesOf};
+use decimals::Decimal;
+use decimals::read_decimal;
 use gatefields::fields::dimension_of;
 use gatefields::fields::is_operand;
 use gatefields::fields::is_parent;
@@ -50,8 +52,8 @@ fn poly_rule(i: usize) -> Rule
     Rule::Coordinate
 }
 
-fn ellip_rule(i: usize) -> Rule
-    ensures { λ r. ⌜ r ≡ ellipRule i ⌝ }
+fn ellip_rule(entry: Rule, distance: Rule, i: usize) -> Rule
+    ensures { λ r. ⌜ r ≡ ellipRule entry distance i ⌝ }
 {
     if i < 2 {
         return Rule::Dimension;
@@ -60,9 +62,9 @@ fn ellip_rule(i: usize) -> Rule
         return Rule::Coordinate;
     }
     if i < 7 {
-        return Rule::Entry;
+        return entry;
     }
-    Rule::Distance
+    distance
 }
 
 fn divider_rule(i: usize) -> Rule
@@ -119,7 +121,8 @@ fn body_rule(kind: LineKind, line: &[u8], i: usize, k: usize) -> Rule
     match kind {
         LineKind::Rect => rect_rule(i),
         LineKind::Poly => poly_rule(i),
-        LineKind::Ellip => ellip_rule(i),
+        LineKind::Ellip => ellip_rule(Rule::Entry, Rule::Distance, i),
+        LineKind::DecimalEllip => ellip_rule(Rule::DecimalEntry, Rule::DecimalDistance, i),
         LineKind::Quad => quad_rule(line, k),
         LineKind::And => Rule::Operand,
         LineKind::Or => Rule::Operand,
@@ -156,6 +159,8 @@ fn is_dimension(rule: Rule) -> bool
         Rule::Coordinate => false,
         Rule::Entry => false,
         Rule::Distance => false,
+        Rule::DecimalEntry => false,
+        Rule::DecimalDistance => false,
         Rule::Min => false,
         Rule::Max => false,
         Rule::Value => false,
@@ -206,6 +211,17 @@ fn number_refusal(lo: i32, hi: i32, x: &[u8]) -> u8
     }
 }
 
+// The same of a number that may have decimals, with the ends in thousandths.
+fn decimal_refusal(lo: i32, hi: i32, x: &[u8]) -> u8
+    requires { ⌜ (DecimalBound lo) × (DecimalBound hi) ⌝ }
+    ensures { λ r. ⌜ r ≡ decimalRefusal lo hi (now (x .entry)) ⌝ }
+{
+    match read_decimal(x) {
+        Decimal::Bad => 7,
+        Decimal::Thousandths(z) => unless((lo <= z) & (z <= hi), 8),
+    }
+}
+
 fn optional_refusal(lo: i32, hi: i32, x: &[u8]) -> u8
     requires { ⌜ (Bound lo) × (Bound hi) ⌝ }
     ensures { λ r. ⌜ r ≡ optionalRefusal lo hi (now (x .entry)) ⌝ }
@@ -237,6 +253,8 @@ fn field_refusal(head: &[u8], kind: LineKind, line: &[u8], k: usize) -> u8
         Rule::Coordinate => number_refusal(-65536, 65535, x),
         Rule::Entry => number_refusal(-16777216, 16777216, x),
         Rule::Distance => number_refusal(1, 4096, x),
+        Rule::DecimalEntry => decimal_refusal(-2000000000, 2000000000, x),
+        Rule::DecimalDistance => decimal_refusal(1, 4096000, x),
         Rule::Min => optional_refusal(-65536, 65535, x),
         Rule::Max => least_of(optional_refusal(-65535, 65536, x), unless(rises(y, x), 10)),
         Rule::Value => number_refusal(-65535, 65535, x),

@@ -72,11 +72,23 @@ returns-9 : tie.Need-returns-9
 unfolding fieldRefusal
 returns-9 c =
     let after-rule-of = c .before .before .before in
-    rw (c .optional-refusal .ensures, after-rule-of .before .field2 .ensures, ← after-rule-of .rule-of .ensures, c .before .enum-told9 .given .1)
+    rw (c .decimal-refusal .ensures, after-rule-of .before .field2 .ensures, ← after-rule-of .rule-of .ensures, c .before .enum-told9 .given .1)
 
 returns-10 : tie.Need-returns-10
 unfolding fieldRefusal
 returns-10 c =
+    let after-rule-of = c .before .before .before in
+    rw (c .decimal-refusal2 .ensures, after-rule-of .before .field2 .ensures, ← after-rule-of .rule-of .ensures, c .before .enum-told10 .given .1)
+
+returns-11 : tie.Need-returns-11
+unfolding fieldRefusal
+returns-11 c =
+    let after-rule-of = c .before .before .before in
+    rw (c .optional-refusal .ensures, after-rule-of .before .field2 .ensures, ← after-rule-of .rule-of .ensures, c .before .enum-told11 .given .1)
+
+returns-12 : tie.Need-returns-12
+unfolding fieldRefusal
+returns-12 c =
     let after-optional-refusal2 = c .before .before .before in
     let after-rule-of = after-optional-refusal2 .before .before .before in
     let after-minus = after-rule-of .before .before .before in
@@ -89,18 +101,18 @@ returns-10 c =
       after-rule-of .before .before .field .ensures,
       after-minus .minus .ensures,
       ← after-rule-of .rule-of .ensures,
-      after-optional-refusal2 .before .enum-told10 .given .1,
+      after-optional-refusal2 .before .enum-told12 .given .1,
     )
 
-returns-11 : tie.Need-returns-11
+returns-13 : tie.Need-returns-13
 unfolding fieldRefusal
-returns-11 c =
+returns-13 c =
     let after-rule-of = c .before .before .before in
-    rw (c .number-refusal4 .ensures, after-rule-of .before .field2 .ensures, ← after-rule-of .rule-of .ensures, c .before .enum-told11 .given .1)
+    rw (c .number-refusal4 .ensures, after-rule-of .before .field2 .ensures, ← after-rule-of .rule-of .ensures, c .before .enum-told13 .given .1)
 
-returns-12 : tie.Need-returns-12
+returns-14 : tie.Need-returns-14
 unfolding fieldRefusal
-returns-12 c =
+returns-14 c =
     let after-number-refusal5 = c .before .before .before in
     let after-rule-of = after-number-refusal5 .before .before .before in
     let after-minus = after-rule-of .before .before .before in
@@ -113,14 +125,14 @@ returns-12 c =
       after-rule-of .before .before .field .ensures,
       after-minus .minus .ensures,
       ← after-rule-of .rule-of .ensures,
-      after-number-refusal5 .before .enum-told12 .given .1,
+      after-number-refusal5 .before .enum-told14 .given .1,
     )
 
-returns-13 : tie.Need-returns-13
+returns-15 : tie.Need-returns-15
 unfolding fieldRefusal
-returns-13 c =
+returns-15 c =
     let after-rule-of = c .before .before .before in
-    rw (c .optional-refusal3 .ensures, after-rule-of .before .field2 .ensures, ← after-rule-of .rule-of .ensures, c .before .enum-told13 .given .1)
+    rw (c .optional-refusal3 .ensures, after-rule-of .before .field2 .ensures, ← after-rule-of .rule-of .ensures, c .before .enum-told15 .given .1)
 
 pub field-refusal-spec : {M : Type 1} → statement M
 field-refusal-spec =
@@ -142,6 +154,10 @@ field-refusal-spec =
     (λ c κs. search needs)
     (λ c. search needs)
     (λ c κs. search needs)
+    (λ c κs. search needs)
+    (λ c. search needs)
+    (λ c κs. search needs)
+    (λ c. search needs)
     (λ c κs. search needs)
     (λ c. search needs)
     (λ c κs. search needs)
@@ -177,4 +193,6 @@ field-refusal-spec =
     returns-10
     returns-11
     returns-12
-    returns-13)
+    returns-13
+    returns-14
+    returns-15)
