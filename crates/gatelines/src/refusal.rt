@@ -2,13 +2,14 @@
 ghost use mathlib.Core.Path.{_≡_};
 ghost use lib.ListN.{drop};
 ghost use Rattle.text.specs.Lines.{fields};
-ghost use Rattle.gates.specs.Refusal.{shapeGood, matrixPasses, tilingPasses, lineRefusal};
+ghost use Rattle.gates.specs.Refusal.{shapeGood, becomes as becomesOf, entryOf, matrixPasses, tilingPasses, lineRefusal};
 use crate::tiling::tiles;
 use gatefields::fields::is_quad;
 use gatefields::fields::is_unknown;
 use gatefields::fields::kind_of;
 use gatefields::fields::minus;
 use gatefields::fields::step_kind;
+use gatefields::fields::thousandths_of;
 use gatefields::fields::value_of;
 use gatefields::quads::layout_good;
 use gaterules::fields_refusal;
@@ -29,18 +30,35 @@ fn shape_good(kind: LineKind, m: usize, line: &[u8]) -> bool
     is_length(step_kind(kind), m)
 }
 
+// Whether a line becomes the kind of step with a number.
+fn becomes(number: u8, kind: LineKind) -> bool
+    ensures { λ r. ⌜ r ≡ becomesOf number kind ⌝ }
+{
+    kind_number(step_kind(kind)) == number
+}
+
+// An entry of the matrix of an ellipse.
+fn entry_of(kind: LineKind, x: &[u8]) -> i32
+    ensures { λ r. ⌜ r ≡ entryOf kind (now (x .entry)) ⌝ }
+{
+    if becomes(7, kind) {
+        return thousandths_of(x);
+    }
+    value_of(x)
+}
+
 // Whether the matrix of an ellipse is good; a line of another kind has none.
 fn matrix_passes(kind: LineKind, line: &[u8]) -> bool
     ensures { λ r. ⌜ r ≡ matrixPasses kind (fields (now (line .entry))) ⌝ }
 {
-    if kind_number(step_kind(kind)) != 3 {
-        return true;
+    if becomes(3, kind) | becomes(7, kind) {
+        return matrix_good(
+            entry_of(kind, field(line, 7)),
+            entry_of(kind, field(line, 8)),
+            entry_of(kind, field(line, 9)),
+        );
     }
-    matrix_good(
-        value_of(field(line, 7)),
-        value_of(field(line, 8)),
-        value_of(field(line, 9)),
-    )
+    true
 }
 
 // Whether the quadrants of a quad line tile; a line of another kind has none.

@@ -6,13 +6,14 @@ ghost use lib.ListN.{length, drop};
 ghost use Rattle.text.specs.Lines.{fields};
 ghost use Rattle.gates.specs.Kinds.{dimensionOf};
 ghost use Rattle.gates.specs.Quads.{dividerCount, quadrantCount};
-ghost use Rattle.gates.specs.Encoding.{minWord, maxWord, rectWord, planeWord, lowerEnd, upperEnd, quadrantMin, quadrantMax, quadrantWord};
+ghost use Rattle.gates.specs.Encoding.{minWord, maxWord, rectWord, planeWord, decimalWord, lowerEnd, upperEnd, quadrantMin, quadrantMax, quadrantWord};
 ghost use Rattle.gates.specs.Inner.Regions.{lineWord};
 use crate::tiling::divider_value;
 use crate::tiling::interval;
 use crate::tiling::representative;
 use gatefields::fields::dimension_of;
 use gatefields::fields::is_star;
+use gatefields::fields::thousandths_of;
 use gatefields::fields::value_of;
 use gatefields::quads::divider_at;
 use gatefields::quads::value_count;
@@ -69,6 +70,16 @@ fn plane_word(head: &[u8], line: &[u8], i: usize) -> i32
     value_of(x)
 }
 
+fn decimal_word(head: &[u8], line: &[u8], i: usize) -> i32
+    requires { ⌜ (length (drop 1 (fields (now head))) ≤ 8) × (i < length (fields (now line)) - 3) ⌝ }
+    ensures { λ r. ⌜ r ≡ decimalWord (drop 1 (fields (now (head .entry)))) (fields (now (line .entry))) i ⌝ }
+{
+    if i < 4 {
+        return plane_word(head, line, i);
+    }
+    thousandths_of(field(line, 3 + i))
+}
+
 // Word i of what a line draws with all its fields.
 pub fn line_word(head: &[u8], kind: LineKind, line: &[u8], i: usize) -> i32
     requires { ⌜ (length (drop 1 (fields (now head))) ≤ 8) × (i < length (fields (now line)) - 3) ⌝ }
@@ -78,6 +89,7 @@ pub fn line_word(head: &[u8], kind: LineKind, line: &[u8], i: usize) -> i32
         LineKind::Rect => rect_word(head, line, i),
         LineKind::Poly => plane_word(head, line, i),
         LineKind::Ellip => plane_word(head, line, i),
+        LineKind::DecimalEllip => decimal_word(head, line, i),
         LineKind::Quad => 0,
         LineKind::And => 0,
         LineKind::Or => 0,

@@ -22,10 +22,18 @@ returns-3 c =
     let entry = told .before .before .before .before in
     rw (told .enum-told3 .given .1) (word-in-table _ _ (entry .pre .1) (c .plane-word2 .ok) (c .plane-word2 .ensures))
 
+returns-4 : tie.Need-returns-4
+returns-4 c =
+    let told = c .before in
+    let entry = told .before .before .before .before in
+    rw (told .enum-told4 .given .1) (word-in-table _ _ (entry .pre .1) (c .decimal-word .ok) (c .decimal-word .ensures))
+
 pub line-word-spec : {M : Type 1} → statement M
 line-word-spec =
     tie.close
     (tie.spec
+    (λ c. search needs)
+    (λ c κs. search needs)
     (λ c. search needs)
     (λ c κs. search needs)
     (λ c. search needs)
@@ -40,6 +48,7 @@ line-word-spec =
     returns
     returns-2
     returns-3
+    returns-4
     (λ c. cc)
     (λ c. cc)
     (λ c. cc)
