@@ -56,7 +56,11 @@ fn carries_point(line: &[u8]) -> bool
 fn ellip_kind(decimals: bool) -> LineKind
     ensures { λ r. ⌜ r ≡ cond decimals DecimalEllip Ellip ⌝ }
 {
-    if decimals { LineKind::DecimalEllip } else { LineKind::Ellip }
+    if decimals {
+        LineKind::DecimalEllip
+    } else {
+        LineKind::Ellip
+    }
 }
 
 // The kind with a name; of an ellipse, with or without decimals.

@@ -11,13 +11,14 @@ use lib.IntN.{ℤ}
 use lib.ListN.{length}
 use Rattle.text.specs.Bounded.{least}
 use Rattle.text.specs.Numbers.{isNumber, numberValue}
+use Rattle.decimals.specs.Decimals.{isDecimal, thousandths}
 use Rattle.integers.specs.Range.{inRange}
 use Rattle.text.specs.Names.{isName}
 use Rattle.gates.specs.declared.LineKind.{LineKind}
 use Rattle.gates.specs.declared.Rule.{Rule}
-use Rattle.gates.specs.declared.Rule.the-variants.{Free, Name, Parent, Operand, Dimension, Coordinate, Entry, Distance, Min, Max, Value, Rising, Representative}
+use Rattle.gates.specs.declared.Rule.the-variants.{Free, Name, Parent, Operand, Dimension, Coordinate, Entry, Distance, DecimalEntry, DecimalDistance, Min, Max, Value, Rising, Representative}
 use Rattle.gates.specs.Kinds.{lineKind, isUnknown, isStar, isParent, isOperand}
-use Rattle.gates.specs.Rules.{noRefusal, unless, numberRefusal, optionalRefusal, uncrossed, earned, fieldRefusal, fieldsRefusal, ruleOf}
+use Rattle.gates.specs.Rules.{noRefusal, unless, numberRefusal, decimalRefusal, optionalRefusal, uncrossed, earned, fieldRefusal, fieldsRefusal, ruleOf}
 use Rattle.gates.specs.Refusal.{kindRefusal, lineRefusal, shapeGood, matrixPasses, tilingPasses}
 
 abbrev pub Listed : ℕ → Type 0
@@ -47,9 +48,17 @@ least-listed f h (suc n) = lesser (least f noRefusal n) (f n) (least-listed f h 
 unless-listed : (b : Bool) (k : ℕ) → 4 ≤ k → k ≤ 12 → Listed (unless b k)
 unless-listed b k h l = either b none (of k h l)
 
+-- a form, then a range
+held-listed : (good in-range : Bool) → Listed (cond good (unless in-range 8) 7)
+held-listed good in-range = either good (unless-listed in-range 8 (omega arith) (omega arith)) (of 7 (omega arith) (omega arith))
+
 number-listed : (lo hi : ℤ) (x : List ℕ) → Listed (numberRefusal lo hi x)
 unfolding numberRefusal
-number-listed lo hi x = either (isNumber x) (unless-listed (inRange lo hi (numberValue x)) 8 (omega arith) (omega arith)) (of 7 (omega arith) (omega arith))
+number-listed lo hi x = held-listed (isNumber x) (inRange lo hi (numberValue x))
+
+decimal-listed : (lo hi : ℤ) (x : List ℕ) → Listed (decimalRefusal lo hi x)
+unfolding decimalRefusal
+decimal-listed lo hi x = held-listed (isDecimal x) (inRange lo hi (thousandths x))
 
 optional-listed : (lo hi : ℤ) (x : List ℕ) → Listed (optionalRefusal lo hi x)
 unfolding optionalRefusal
@@ -67,6 +76,8 @@ earned-listed Dimension b y x = unless-listed b 9 (omega arith) (omega arith)
 earned-listed Coordinate b y x = number-listed _ _ x
 earned-listed Entry b y x = number-listed _ _ x
 earned-listed Distance b y x = number-listed _ _ x
+earned-listed DecimalEntry b y x = decimal-listed _ _ x
+earned-listed DecimalDistance b y x = decimal-listed _ _ x
 earned-listed Min b y x = optional-listed _ _ x
 earned-listed Max b y x = lesser _ _ (optional-listed _ _ x) (crossed-listed y x)
 earned-listed Value b y x = number-listed _ _ x

@@ -31,6 +31,7 @@ use Rattle.text.specs.Lines as Lines
 use Rattle.text.specs.Names as Names
 use Rattle.text.specs.Numbers as Numbers
 use Rattle.text.specs.Output as Output
+use Rattle.decimals.specs.Decimals as Decimals
 use Rattle.gates.specs.Kinds as Kinds
 use Rattle.gates.specs.Meaning as Meaning
 use Rattle.gates.specs.Outlines as LineOutlines
@@ -115,8 +116,9 @@ unfolding tableCases tableOutlineCases sameWords answer inGate onGate example ex
     Form.matrixGood Indices.all Indices.any
     Indices.howMany Indices.firstBad Words.word Range.inRange Words.onScale Ellipse.inEllipse Judging.valueGood Judging.taken Polygon.side Polygon.between
     Polygon.onEdge Polygon.turn Polygon.crossing Polygon.edgesFrom Polygon.edges Polygon.onSome Polygon.crossings Polygon.inPolygon Bytes.same Lines.fields
-    Lines.lines Lines.endsInLF Names.isName Numbers.isNegative Numbers.unsigned Numbers.isPositive Numbers.isNumber Numbers.numberValue Numbers.clampTo Numbers.clamp
-    Output.over Kinds.kindNamed Kinds.isStar Kinds.isNone Kinds.isParent Kinds.isComplement Kinds.operandName Kinds.isOperand Kinds.dimensionOf Kinds.valueOf
+    Lines.lines Lines.endsInLF Names.isName Numbers.isNegative Numbers.unsigned Numbers.isPositive Numbers.isNumber Numbers.numberValue Numbers.clampTo
+    Numbers.clamp Output.over Decimals.hasPoint Kinds.carriesPoint Kinds.kindNamed Kinds.isStar Kinds.isNone Kinds.isParent Kinds.isComplement
+    Kinds.operandName Kinds.isOperand Kinds.dimensionOf Kinds.valueOf
     Meaning.inPoly Meaning.inEllip Encoding.minWord Encoding.maxWord Encoding.rectWord Encoding.planeWord Encoding.lowerEnd Encoding.upperEnd
     Encoding.quadrantMin Encoding.quadrantMax Encoding.quadrantWord Meaning.parentOf Meaning.gateOf Quads.countDigit Quads.dividerAt Quads.dividerValue
     Quads.quadrantCount Quads.quadrantAt Quads.layoutGood Refusal.kindRefusal Refusal.lineRefusal Rules.rectRule Rules.ellipRule Rules.dividerRule
