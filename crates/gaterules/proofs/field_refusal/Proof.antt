@@ -1,5 +1,6 @@
 -- `field_refusal`: by the rule of the field.
 use Rattle.gates.specs.Rules.{fieldRefusal}
+use mathlib.Core.Path.{refl}
 use borrow.Author.Needs.{needs}
 use Rattle.gaterules.proofs.field_refusal.Statement.{statement}
 use Rattle.gaterules.proofs.field_refusal.Tie as tie
@@ -72,13 +73,13 @@ returns-9 : tie.Need-returns-9
 unfolding fieldRefusal
 returns-9 c =
     let after-rule-of = c .before .before .before in
-    rw (c .decimal-refusal .ensures, after-rule-of .before .field2 .ensures, ← after-rule-of .rule-of .ensures, c .before .enum-told9 .given .1)
+    rw (c .decimal-refusal .ensures, after-rule-of .before .field2 .ensures, ← after-rule-of .rule-of .ensures, c .before .enum-told9 .given .1) refl
 
 returns-10 : tie.Need-returns-10
 unfolding fieldRefusal
 returns-10 c =
     let after-rule-of = c .before .before .before in
-    rw (c .decimal-refusal2 .ensures, after-rule-of .before .field2 .ensures, ← after-rule-of .rule-of .ensures, c .before .enum-told10 .given .1)
+    rw (c .decimal-refusal2 .ensures, after-rule-of .before .field2 .ensures, ← after-rule-of .rule-of .ensures, c .before .enum-told10 .given .1) refl
 
 returns-11 : tie.Need-returns-11
 unfolding fieldRefusal

@@ -1,4 +1,5 @@
 -- `carries_point`: each of the four fields is asked.
+use mathlib.Core.Path.{refl}
 use Rattle.plans.specs.Indices.{any}
 use Rattle.gates.specs.Kinds.{carriesPoint}
 use borrow.Author.Needs.{needs}
@@ -20,7 +21,7 @@ returns c =
       c12 .before .field2 .ensures,
       c11 .has-point .ensures,
       c11 .before .field .ensures,
-    )
+    ) refl
 
 pub carries-point-spec : {M : Type 1} → statement M
 carries-point-spec =

@@ -1,5 +1,6 @@
 -- `kind_named`: each kind where the field is its name, else those tried before.
 use Rattle.gates.specs.Kinds.{kindNamed}
+use mathlib.Core.Path.{refl}
 use borrow.Author.Needs.{needs}
 use Rattle.gatefields.proofs.fields.kind_named.Statement.{statement}
 use Rattle.gatefields.proofs.fields.kind_named.Tie as tie
@@ -23,7 +24,7 @@ returns c =
       and .kind-or3 .ensures,
       or .kind-or2 .ensures,
       not .kind-or .ensures,
-    )
+    ) refl
 
 pub kind-named-spec : {M : Type 1} → statement M
 kind-named-spec =

@@ -1,6 +1,7 @@
 -- `matrix_passes`: only an ellipse, kind 3 or 7, has a matrix.
 use mir.Syntax.{w32}
 use mir.ValLaws.{toZ-ofZ}
+use mathlib.Core.Path.{refl}
 use borrow.Author.Needs.{needs}
 use Rattle.gatelines.proofs.refusal.matrix_passes.Statement.{statement}
 use Rattle.gatelines.proofs.refusal.matrix_passes.Tie as tie
@@ -26,7 +27,7 @@ returns c =
       ← decimal .becomes2 .ensures,
       ← decimal .before .becomes .ensures,
       at-if1 .if1 .taken,
-    )
+    ) refl
 
 returns-2 : tie.Need-returns-2
 returns-2 c =
