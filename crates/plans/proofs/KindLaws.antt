@@ -136,7 +136,8 @@ module _ (n k set : ℕ) (narrow : n ≤ 8) (few : k ≤ 64) (body : List ℤ) w
   ellipse-fits most far lo hi to i =
       choose (ltb i 2) _ _ (λ _. dimension-fits 1 i i (omega arith))
       (λ _. choose (ltb i 4) _ _ (λ _. scale-fits (word body i))
-      (λ _. choose (eqb i 4) _ _ (λ c e. let q : i ≡ 4 = eqb-true i 4 c in rw q (range-fits (negℤ most) most (word body 4) lo hi (and-both (entry most (word body 4)) _ e .0)))
+      (λ _. choose (eqb i 4) _ _
+      (λ c e. let q : i ≡ 4 = eqb-true i 4 c in rw q (range-fits (negℤ most) most (word body 4) lo hi (and-both (entry most (word body 4)) _ e .0)))
       (λ _. choose (ltb i 7) _ _ (λ _. range-fits (negℤ most) most (word body i) lo hi)
       (λ _. range-fits (pos 1) far (word body i) (omega arith) to))))
 

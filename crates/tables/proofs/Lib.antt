@@ -23,3 +23,4 @@ pub mod OrderedAgain
 pub mod JudgingLaws
 pub mod Examples
 pub mod Demand
+pub mod FloatTheorems

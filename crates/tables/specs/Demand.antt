@@ -7,8 +7,8 @@ use lib.IntN.{ℤ}
 use lib.ListN.{length, getD}
 use Rattle.plans.specs.Indices.{howMany}
 use Rattle.plans.specs.Refusals.{passed}
-use Rattle.plans.specs.Form.{checkOf}
-use Rattle.counter.specs.Counting.{eventAt, takenAt, spoiltAt, countOf}
+use Rattle.plans.specs.Form.{Float, today, checkFor}
+use Rattle.counter.specs.Counting.{eventAt, takenAt, spoiltAt, countFor}
 use Rattle.counter.specs.declared.Tally.{Tally}
 use Rattle.gates.specs.Gate.{Name, Quadrant, quad, Gate, Region, regions}
 use Rattle.tables.specs.Table.{_∈_, nthRegion, numberOf, sumOf}
@@ -35,15 +35,15 @@ countOfParent again tally none = tally .taken
 countOfParent again tally (some name) = countOfName again tally name
 
 -- text is the accepted table, again the same with its gate lines in another order, values the list; c is what compiling again into a slice
--- of 4,096 words and counting the list by the words reported gave
-pub record Demand3 (text again : List ℕ) (values : List ℤ) (c : TableCounting) : Type 0 where
+-- of 4,096 words and counting the list by the words reported gave; f is the float that counts
+pub record Demand3For (f : Float) (text again : List ℕ) (values : List ℤ) (c : TableCounting) : Type 0 where
   -- the reordered table compiles, nothing is refused, and the words reported written are its plan
   pub compiles : tableVerdict 4096 again ≡ passed
   pub unrefused : c .verdict ≡ passed
   pub its-plan : lent (c .words) (c .slice) ≡ planOf again
   -- that plan passes, and counting by it is not refused and gives the tally
-  pub passing : checkOf (lent (c .words) (c .slice)) ≡ passed
-  pub counting : countOf (lent (c .words) (c .slice)) values ≡ record { verdict = passed; tally = c .tally }
+  pub passing : checkFor f (lent (c .words) (c .slice)) ≡ passed
+  pub counting : countFor f (lent (c .words) (c .slice)) values ≡ record { verdict = passed; tally = c .tally }
   -- the number at which a region is found by its name is one of the 64, and its own in the reordered table
   pub found : (r : Region) → r ∈ regions (gates text)
       → (numberOf (regions (gates again)) (r .name) < 64) × (nthRegion (regions (gates again)) (numberOf (regions (gates again)) (r .name)) ≡ r)
@@ -56,6 +56,10 @@ pub record Demand3 (text again : List ℕ) (values : List ℤ) (c : TableCountin
   -- the counts of a quadrant gate's quadrants add up
   pub quadrants : (g : Gate) → g ∈ gates text → (qs : List Quadrant) → g .body ≡ quad qs
       → sumOf (λ (q : Quadrant). countOfName again (c .tally) (q .name)) qs ≡ countOfParent again (c .tally) (g .parent)
+
+-- the same for the floats of today
+abbrev pub Demand3 : List ℕ → List ℕ → List ℤ → TableCounting → Type 0
+Demand3 = Demand3For today
 
 -- the claim, of every accepted table of which again is an order, every slice of 4,096 words and every list of complete events
 abbrev pub KeepsDemand3 : List ℕ → List ℤ → List ℤ → TableCounting → Type 0

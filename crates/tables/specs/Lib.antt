@@ -9,6 +9,7 @@ pub mod Steps
 pub mod Refusals
 pub mod Compile
 pub mod TableCount
+pub mod Floats
 pub mod Demand
 pub mod Judging
 pub mod Further
