@@ -20,7 +20,7 @@ GROUPS = (('Demands 1 to 3', DEMANDS), ("The programs' text", None), ('The rows 
 # The files that a request brought; those that were there before and that it changed stay where they were.
 REQUESTS = {
     'a': 'counter/specs/Outlines counter/specs/Positions gates/specs/Outlines tables/specs/Judging tables/specs/Outlines'.split(),
-    'b': 'decimals/specs/Decimals counter/specs/DecimalEllipse'.split(),
+    'b': 'decimals/specs/Decimals counter/specs/DecimalEllipse plans/specs/NewWords tables/specs/Floats'.split(),
 }
 
 

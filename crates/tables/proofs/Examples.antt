@@ -1,5 +1,5 @@
 -- The marked cases of 01, as one theorem over a list of them about the definitions: those of the worked example from its bytes, then those of shapes,
--- matrices and the plan by itself (counter, proofs/MarkedCases). Outlines, of 02's first request, are another list.
+-- matrices and the plan by itself (counter, proofs/MarkedCases). Outlines and ellipses with decimals, of 02's first two requests, are two more lists.
 use mathlib.Core.Path.{refl}
 use mathlib.Core.Bool.{Bool, true, false, _&&_, cond}
 use mathlib.Core.List.{List, [], _∷_, _++_, map}
@@ -8,7 +8,7 @@ use lib.Dec.{eqb}
 use lib.IntN.{ℤ, pos}
 use lib.ListN.{replicate, take}
 use Rattle.integers.specs.Equality.{eqZ}
-use Rattle.counter.proofs.MarkedCases.{Case, is, Hold, hold-both, examplePlan, markedCases, marked-cases as shape-cases, outlineCases, outline-cases as position-cases}
+use Rattle.counter.proofs.MarkedCases.{Case, is, Hold, hold-both, examplePlan, markedCases, marked-cases as shape-cases, outlineCases, outline-cases as position-cases, turnedPlan, decimalCases, decimal-cases as turned-cases}
 use Rattle.text.specs.Bytes.{bytes, same}
 use Rattle.text.specs.Lines.{unlines}
 use Rattle.tables.specs.Head.{gates}
@@ -21,6 +21,7 @@ use Rattle.plans.specs.Indices as Indices
 use Rattle.integers.specs.Range as Range
 use Rattle.plans.specs.Words as Words
 use Rattle.counter.specs.Ellipse as Ellipse
+use Rattle.counter.specs.DecimalEllipse as DecimalEllipse
 use Rattle.counter.specs.Judging as Judging
 use Rattle.counter.specs.Members as Placing
 use Rattle.counter.specs.Counting as Counting
@@ -111,8 +112,37 @@ tableOutlineCases =
     ∷ is (onGate (bytes "Both") (pos 344) (pos 368)) false
     ∷ []
 
-table-cases : Hold tableCases × Hold tableOutlineCases
-unfolding tableCases tableOutlineCases sameWords answer inGate onGate example exampleEvents Bits.hasBit Bits.withBit Form.spans Form.spansBy
+-- the ellipse of 000's example with D² = 2, as a clustering package writes it
+decimalExample : List ℕ
+decimalExample = unlines (tabbed (bytes "dims FSC SSC") ∷ tabbed (bytes "ellip Turned - FSC SSC 40 40 1134.5 -234.50 1134.500 2.0") ∷ [])
+
+decimalAnswer : TableCounting
+decimalAnswer = countTableOf decimalExample (replicate 64 (pos 0)) (pos 77 ∷ pos 3 ∷ pos 71 ∷ pos 70 ∷ pos 40 ∷ pos 40 ∷ pos 70 ∷ pos 70 ∷ [])
+
+inTurned : ℤ → ℤ → Bool
+inTurned x y = member (gates decimalExample) (x ∷ y ∷ []) (bytes "Turned")
+
+onTurned : ℤ → ℤ → Bool
+onTurned x y = outlineMember (gates decimalExample) (x ∷ y ∷ []) (bytes "Turned")
+
+pub tableDecimalCases : List Case
+tableDecimalCases =
+    is (sameWords (lent (decimalAnswer .words) (decimalAnswer .slice)) turnedPlan) true
+    ∷ is (same (take 2 (decimalAnswer .tally .counts)) (3 ∷ 0 ∷ [])) true
+    ∷ is (eqb (decimalAnswer .tally .taken) 4) true
+    ∷ is (inTurned (pos 77) (pos 3)) true
+    ∷ is (onTurned (pos 77) (pos 3)) true
+    ∷ is (inTurned (pos 76) (pos 3)) true
+    ∷ is (onTurned (pos 76) (pos 3)) false
+    ∷ is (inTurned (pos 71) (pos 70)) false
+    ∷ []
+
+table-cases : Hold tableCases × Hold tableOutlineCases × Hold tableDecimalCases
+unfolding tableCases tableOutlineCases tableDecimalCases sameWords answer inGate onGate example exampleEvents decimalExample decimalAnswer inTurned onTurned
+    Decimals.beforePoint Decimals.afterPoint Decimals.unsignedThousandths Decimals.thousandths Decimals.isWhole Decimals.isOneToThree Decimals.isMinusZero
+    Decimals.isDecimal Kinds.thousandthsOf Rules.decimalRefusal Encoding.decimalWord Meaning.inDecimalEllip LineOutlines.onDecimalEllip
+    DecimalEllipse.inDecimalEllipse DecimalEllipse.decimalEllipsePosition Placing.decimalEllipseIn
+    Bits.hasBit Bits.withBit Form.spans Form.spansBy
     Form.matrixGood Indices.all Indices.any
     Indices.howMany Indices.firstBad Words.word Range.inRange Words.onScale Ellipse.inEllipse Judging.valueGood Judging.taken Polygon.side Polygon.between
     Polygon.onEdge Polygon.turn Polygon.crossing Polygon.edgesFrom Polygon.edges Polygon.onSome Polygon.crossings Polygon.inPolygon Bytes.same Lines.fields
@@ -138,6 +168,7 @@ unfolding tableCases tableOutlineCases sameWords answer inGate onGate example ex
 table-cases = (
   (refl, (refl, (refl, (refl, (refl, (refl, (refl, tt))))))),
   (refl, (refl, (refl, (refl, (refl, (refl, (refl, (refl, (refl, tt))))))))),
+  (refl, (refl, (refl, (refl, (refl, (refl, (refl, (refl, tt)))))))),
 )
 
 pub marked-cases : Hold (tableCases ++ markedCases)
@@ -145,3 +176,6 @@ marked-cases = hold-both tableCases markedCases (table-cases .0) shape-cases
 
 pub outline-cases : Hold (tableOutlineCases ++ outlineCases)
 outline-cases = hold-both tableOutlineCases outlineCases (table-cases .1) position-cases
+
+pub decimal-cases : Hold (tableDecimalCases ++ decimalCases)
+decimal-cases = hold-both tableDecimalCases decimalCases (table-cases .2) turned-cases
