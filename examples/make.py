@@ -5,18 +5,19 @@
     examples/make.py NAME       prints one of them
 
 The events are made up, not measured: clusters of cells and beads on a 16 bit scale, drawn
-from a fixed seed. Only random() and whole numbers are used, so every run writes the same bytes.
-`rim` has the same clusters on 256 channels, so that one unit can be seen in a picture.
+from a fixed seed. Only random(), whole numbers and fractions are used, so every run writes the same bytes.
+`rim` has the same clusters on 256 channels, so that one unit can be seen in a picture, `clusters` on 1,024.
 """
 
 import math
 import os
 import random
 import sys
+from fractions import Fraction
 
 HERE = os.path.dirname(os.path.abspath(__file__))
 SCALE = 65535
-CHANNEL = 256           # units of the scale in one of its 256 channels
+UNITS = {'rim': 256, 'clusters': 64}        # units of the scale in one channel, of the examples in channels
 
 DIMENSIONS = ('FSC', 'SSC', 'RED', 'ORANGE')
 
@@ -156,20 +157,54 @@ def rim():
     return lines, numbers, edge
 
 
+def three_decimals(value):
+    """A fraction as it is written with three decimals."""
+    thousandths = round(value * 1000)
+    return '%s%d.%03d' % ('-' * (thousandths < 0), *divmod(abs(thousandths), 1000))
+
+
+def fitted(cluster, names):
+    """The two means, whole, and c11, c12, c22 with three decimals, as a package finds them in 500 other cells."""
+    rng = random.Random('gate counter: clusters, ' + cluster)
+    cells = [cell(rng, cluster) for _ in range(500)]
+    values = [[each[DIMENSIONS.index(name)] // UNITS['clusters'] for each in cells] for name in names]
+    means = [Fraction(sum(column), len(cells)) for column in values]
+    x, y = ([value - mean for value in column] for column, mean in zip(values, means))
+    entries = [sum(a * b for a, b in zip(*pair)) / (len(cells) - 1) for pair in ((x, x), (x, y), (y, y))]
+    return [str(round(mean)) for mean in means] + [three_decimals(entry) for entry in entries]
+
+
+def clusters():
+    names = ['RED', 'ORANGE']
+    lines = [['dims', *names]]
+    # D² is the chi-square quantile of two dimensions: 99 % of a cluster, and half of one.
+    for gate, parent, cluster, d2 in (('Pro', '-', 'prochlorococcus', '9.210'),
+                                      ('Syn', '-', 'synechococcus', '9.210'),
+                                      ('PicoEuk', '-', 'picoeukaryotes', '9.210'),
+                                      ('Crypto', '-', 'cryptophytes', '9.210'),
+                                      ('Beads', '-', 'beads', '9.210'),
+                                      ('SynCore', 'Syn', 'synechococcus', '1.386')):
+        lines.append(['ellip', gate, parent, *names, *fitted(cluster, names), d2])
+    lines += table('and Unassigned - !Pro !Syn !PicoEuk !Crypto !Beads')
+    numbers = {'debris': 40, 'prochlorococcus': 120, 'synechococcus': 100, 'picoeukaryotes': 60, 'cryptophytes': 40,
+               'beads': 30}
+    return lines, numbers, []
+
+
 MADE = {'quadrants': quadrants, 'polygon': polygon, 'ellipses': ellipses, 'boolean': boolean}
 
-# In channels. Not in MADE, from which bench/ makes loads of the whole scale.
-IN_CHANNELS = {'rim': rim}
+# In channels. Not in MADE, from which bench/ makes loads of the whole scale that each earlier counter takes.
+IN_CHANNELS = {'rim': rim, 'clusters': clusters}
 NAMES = [*MADE, *IN_CHANNELS]
 
 
 def text(name):
     lines, numbers, edge = (MADE.get(name) or IN_CHANNELS[name])()
     cells = sample(random.Random('gate counter: ' + name), numbers)
-    events = [[values[column] for column in columns(lines)] for values in cells]
-    if name in IN_CHANNELS:
+    events = [[values[column] // UNITS.get(name, 1) for column in columns(lines)] for values in cells]
+    if name == 'rim':
         # One cell at most in a place, and none where an event is listed: on the rim are the listed ones only.
-        places = dict.fromkeys(tuple(value // CHANNEL for value in event) for event in events)
+        places = dict.fromkeys(map(tuple, events))
         events = [place for place in places if place not in edge]
     rows = lines + [['events']] + [[str(value) for value in event] for event in events + edge]
     return ''.join('\t'.join(row) + '\n' for row in rows).encode()
