@@ -47,10 +47,10 @@ most 5,000 numbers, a slice at most 9,000 words and a line at most 100,000 bytes
                                        hexadecimal digits each; `-` stands for an empty table
         -> number place words regions beyond w1 .. wWORDS
 
-For `compile` the executable lends a slice of S words, each holding 77777777 (which a plan
-has only for 77777.777 in an ellipse).  `words` and `regions` are what compiling reports (0 0 when
+For `compile` the executable lends a slice of S words, each holding 2100000000 (which no word
+of a plan is).  `words` and `regions` are what compiling reports (0 0 when
 refused), the words that follow are the first `words` words of the slice afterwards, and
-`beyond` is how many of the slice's other words no longer hold 77777777: always 0.
+`beyond` is how many of the slice's other words no longer hold 2100000000: always 0.
 """
 
 import argparse

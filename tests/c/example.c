@@ -438,7 +438,7 @@ static void test_events(void) {
 
 /* ---- Compiling ---- */
 
-enum { UNTOUCHED = 77777777 }; /* no word of a plan */
+enum { UNTOUCHED = 2100000000 }; /* no word of a plan */
 
 static const char example_table[] =
     "dims\tFSC\tSSC\n"

@@ -37,7 +37,7 @@ static void print_bits(uint64_t bits)
 /* The question `compile`: 1 where its line is good. */
 static int compile(void)
 {
-    enum { SLICE = 9000, BYTES = 50000, UNTOUCHED = 77777777 };
+    enum { SLICE = 9000, BYTES = 50000, UNTOUCHED = 2100000000 };
     static int32_t slice[SLICE];
     static uint8_t table[BYTES];
     static char digits[2 * BYTES + 1];

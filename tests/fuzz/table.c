@@ -15,7 +15,7 @@
 #include "gatecount.h"
 #include "tries.h"
 
-enum { INPUT_BYTES = 65536, PRINTED = 8192, VALUES = 65536, UNTOUCHED = 77777777 };
+enum { INPUT_BYTES = 65536, PRINTED = 8192, VALUES = 65536, UNTOUCHED = 2100000000 };
 
 /* ---- The program's reading and writing ---- */
 

@@ -14,7 +14,7 @@ sys.path.insert(0, os.path.dirname(os.path.abspath(__file__)))
 
 import gates
 
-FILL = 77777777
+FILL = 2100000000
 
 
 def numbers(values):

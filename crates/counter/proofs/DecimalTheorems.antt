@@ -1,10 +1,13 @@
 -- Ellipses with decimals: their rule is 01's over the exact values, and over whole numbers it is 01's own.
 use mathlib.Core.Path.{_≡_, sym, ap₂, _∙_}
+use mathlib.Core.Bool.{_&&_}
 use mathlib.Core.List.{[], _∷_}
 use lib.IntN.{ℤ, pos, _+ℤ_, _-ℤ_, _*ℤ_}
-use lib.Signed.{_<ℤ_, ltZ-yes}
+use lib.Signed.{ltZ, _<ℤ_, ltZ-yes}
 use Rattle.integers.specs.Inner.Expressions.{Ex, var, lit, _⊕_, _⊖_, _⊗_}
 use Rattle.integers.proofs.Solver.{solve}
+use Rattle.integers.proofs.Products.{ltZ-mul}
+use Rattle.plans.specs.Form.{matrixGood}
 use Rattle.wide.proofs.OrderLaws.{order-mul}
 use Rattle.counter.specs.Ellipse.{form, determinant}
 use Rattle.counter.specs.Positions.{bySides, ellipsePosition}
@@ -103,3 +106,14 @@ module _ (m1 m2 c11 c12 c22 d2 x y : ℤ) where
       (lit 1000000000 ⊗ (var 3 ⊗ (var 0 ⊗ var 2 ⊖ var 1 ⊗ var 1)))
       tt in
       ap₂ bySides l r ∙ scaled-sides (pos 1000000000) (form c11 c12 c22 dx dy) (d2 *ℤ determinant c11 c12 c22) (ltZ-yes tt)
+
+-- a matrix multiplied by 1000, as in thousandths, is judged as it was
+module _ (c11 c12 c22 : ℤ) where
+  pub matrix-whole : matrixGood (pos 1000 *ℤ c11) (pos 1000 *ℤ c12) (pos 1000 *ℤ c22) ≡ matrixGood c11 c12 c22
+  unfolding matrixGood
+  matrix-whole =
+      let l : pos 1000 *ℤ c12 *ℤ (pos 1000 *ℤ c12) ≡ pos 1000000 *ℤ (c12 *ℤ c12) =
+      solve (c12 ∷ []) ((lit 1000 ⊗ var 0) ⊗ (lit 1000 ⊗ var 0)) (lit 1000000 ⊗ (var 0 ⊗ var 0)) tt in
+      let r : pos 1000 *ℤ c11 *ℤ (pos 1000 *ℤ c22) ≡ pos 1000000 *ℤ (c11 *ℤ c22) =
+      solve (c11 ∷ c22 ∷ []) ((lit 1000 ⊗ var 0) ⊗ (lit 1000 ⊗ var 1)) (lit 1000000 ⊗ (var 0 ⊗ var 1)) tt in
+      ap₂ _&&_ (ltZ-mul (pos 1000) (pos 0) c11 (ltZ-yes tt)) (ap₂ ltZ l r ∙ ltZ-mul (pos 1000000) (c12 *ℤ c12) (c11 *ℤ c22) (ltZ-yes tt))

@@ -9,7 +9,7 @@ use native.Mathlib.Decide.{decLt}
 use lib.Dec.{ltb, eqb}
 use lib.IntN.{ℤ, pos}
 use lib.ListN.{length, length-append}
-use borrow.Author.Tests.{lt-ltb, le-ltb, eq-eqb, not-true}
+use borrow.Author.Tests.{lt-ltb, le-ltb, eq-eqb, ltb-true, not-true, not-false}
 use Rattle.plans.specs.Indices.{firstBad}
 use Rattle.plans.specs.Bits.{hasBit, withBit}
 use Rattle.plans.specs.Refusals.{passed, refused}
@@ -19,7 +19,7 @@ use Rattle.plans.specs.Kinds.{spans}
 use Rattle.plans.specs.NewWords.{newStepWord, newWord, oldWord, lowestNew, holdsNew}
 use Rattle.plans.specs.declared.Kind.the-variants.{DecimalEllipse}
 use Rattle.plans.proofs.BitLaws.{no-bit}
-use Rattle.plans.proofs.IndexLaws.{clash, and-right-false, first-none, first-before, first-to}
+use Rattle.plans.proofs.IndexLaws.{clash, and-right-false, first-none, first-before, first-at}
 use Rattle.plans.proofs.FloatTheorems.{KnowsLess, first-less, new-refused, old-passes, first-at-kind-7}
 use Rattle.counter.specs.Counting.{noTally, countFor, countOf}
 use Rattle.counter.proofs.FloatTheorems.{counts-as-today, new-uncounted, old-counted}
@@ -28,16 +28,16 @@ use Rattle.tables.specs.Table.{_∈_, nthRegion}
 use Rattle.tables.specs.Head.{dimensions, gates, LineOrder, reordered}
 use Rattle.tables.specs.Steps.{shapeKind, stepWords, stepsWords, order, planWords}
 use Rattle.tables.specs.Refusals.{tableVerdict}
-use Rattle.tables.specs.Compile.{planOf}
+use Rattle.tables.specs.Compile.{planOf, Compiling, compileOf}
 use Rattle.tables.specs.TableCount.{TableCounting, lent, countTableOf}
-use Rattle.tables.specs.Floats.{KnownTo}
+use Rattle.tables.specs.Floats.{KnownTo, RefusedAsNew, FirstFloatRefuses}
 use Rattle.tables.specs.Demand.{dims, Demand3For, Demand3}
 use Rattle.tables.proofs.NameLaws.{region-in, region-of}
 use Rattle.tables.proofs.OrderLaws.{Orderly, Ordered, with-cases, after, all-written, order-length, order-ordered}
 use Rattle.tables.proofs.GateLaws.{orderly, moved-region}
 use Rattle.tables.proofs.StepLaws.{kind-is, next-is}
 use Rattle.tables.proofs.Acceptance.{Accepted, passed-accepted}
-use Rattle.tables.proofs.CompileLaws.{plan-passes}
+use Rattle.tables.proofs.CompileLaws.{compiled-verdict, compiled-plan, plan-passes}
 use Rattle.tables.proofs.OrderedAgain.{OrderedAgain, ordered-again}
 use Rattle.tables.proofs.Demand.{demand-3}
 
@@ -126,7 +126,13 @@ holds-some f p i l e = lt-ltb _ _ (go (decLt (firstBad (λ j. not (newWord f p j
     go (yes h) = h
     go (no h) = absurd (clash (sym (rw e at (first-before (λ j. not (newWord f p j)) 0 (length p) i (omega arith) (omega arith)))))
 
--- the words before the lowest new one
+-- the lowest new word is new, and the words before it are not
+lowest-is-new : (f : Float) (p : List ℤ) → holdsNew f p ≡ true → newWord f p (lowestNew f p) ≡ true
+unfolding holdsNew lowestNew oldWord
+lowest-is-new f p e =
+    let l = ltb-true (firstBad (λ j. not (newWord f p j)) 0 (length p)) (length p) e in
+    not-false _ (first-at (λ j. not (newWord f p j)) 0 (length p) (omega arith))
+
 nothing-before : (f : Float) (p : List ℤ) (i : ℕ) → i < lowestNew f p → newWord f p i ≡ false
 unfolding lowestNew oldWord
 nothing-before f p i l = not-true _ (first-before (λ j. not (newWord f p j)) 0 (length p) i (omega arith) l)
@@ -172,17 +178,17 @@ module _ (f : Float) (n : ℕ) (rs : List Region) (ok : Orderly rs) where
       let new = steps-new f rs (order rs) head (k .0) (in-order (k .0) (k .1)) q in
       holds-some f (planWords n rs) (new .0) (new .2) (plan-new (new .0) ∙ new .3)
 
--- ---- the plan of an accepted table
+-- ---- the plan of an accepted table, whatever the slice
 
-module _ (f : Float) (less : KnowsLess f) (text : List ℕ) (accepted : tableVerdict 4096 text ≡ passed) where
+module _ (f : Float) (less : KnowsLess f) (room : ℕ) (text : List ℕ) (accepted : tableVerdict room text ≡ passed) where
   abbrev p : List ℤ
   p = planOf text
 
-  is-accepted : Accepted 4096 text
-  is-accepted = passed-accepted 4096 text accepted
+  is-accepted : Accepted room text
+  is-accepted = passed-accepted room text accepted
 
   plan-ok : checkOf p ≡ passed
-  plan-ok = plan-passes 4096 text is-accepted
+  plan-ok = plan-passes room text is-accepted
 
   -- it holds something new exactly where the table has a region of a kind that the float does not know
   pub table-old : KnownTo f text → holdsNew f p ≡ false
@@ -194,30 +200,42 @@ module _ (f : Float) (less : KnowsLess f) (text : List ℕ) (accepted : tableVer
   table-new r m e = plan-has-new f (length (dimensions text)) (regions (gates text)) (orderly (gates text) (is-accepted .rules)) r m e
 
   -- then the float refuses it by 22 at the lowest new word, and counts nothing
-  pub new-table-refused : holdsNew f p ≡ true
-      → (checkFor f p ≡ refused 22 (lowestNew f p))
-      × ((values : List ℤ) → countFor f p values ≡ record { verdict = refused 22 (lowestNew f p); tally = noTally })
-  new-table-refused new = (new-refused f less p plan-ok new, λ values. new-uncounted f less p values plan-ok new)
+  pub new-table-refused : holdsNew f p ≡ true → RefusedAsNew f p (lowestNew f p)
+  new-table-refused new = record {
+    is-new = lowest-is-new f p new;
+    none-before = nothing-before f p;
+    refuses = new-refused f less p plan-ok new;
+    never-counts = λ values. new-uncounted f less p values plan-ok new;
+  }
 
   -- else it passes, and the float counts as those of today
   pub old-table-counted : KnownTo f text → (checkFor f p ≡ passed) × ((values : List ℤ) → countFor f p values ≡ countOf p values)
   old-table-counted known = let old = table-old known in (old-passes f less p plan-ok old, λ values. old-counted f less p values plan-ok old)
 
--- a float of the first issue refuses the plan of each accepted table that has an ellipse with decimals, at the word of a kind 7 before which nothing is new
-pub first-refuses : (text : List ℕ) → tableVerdict 4096 text ≡ passed → (r : Region) → r ∈ regions (gates text) → shapeKind (r .shape) ≡ DecimalEllipse
-    → (checkFor first (planOf text) ≡ refused 22 (lowestNew first (planOf text)))
-    × ((values : List ℤ) → countFor first (planOf text) values ≡ record { verdict = refused 22 (lowestNew first (planOf text)); tally = noTally })
-    × (kindAt (planOf text) (lowestNew first (planOf text)) ≡ DecimalEllipse)
-    × ((i : ℕ) → i < lowestNew first (planOf text) → newWord first (planOf text) i ≡ false)
-unfolding spans
-first-refuses text accepted r m e =
-    let new = table-new first first-less text accepted r m (rw e refl) in
-    let refusal = new-table-refused first first-less text accepted new in (
-      refusal .0,
-      refusal .1,
-      first-at-kind-7 (planOf text) (plan-ok first first-less text accepted) new,
-      nothing-before first (planOf text),
-    )
+-- the claim about floats of the first issue, for every table and slice
+module _ (text : List ℕ) (slice : List ℤ) where
+  abbrev made : Compiling
+  made = compileOf text slice
+
+  verdict-is : made .verdict ≡ passed → tableVerdict (length slice) text ≡ passed
+  verdict-is ok = sym (compiled-verdict text slice) ∙ ok
+
+  made-plan : made .verdict ≡ passed → lent (made .words) (made .slice) ≡ planOf text
+  made-plan ok = let v = verdict-is ok in compiled-plan text slice v (passed-accepted (length slice) text v .slice-fits)
+
+  of-plan : made .verdict ≡ passed → (r : Region) → r ∈ regions (gates text) → shapeKind (r .shape) ≡ DecimalEllipse
+      → (place : ℕ) × RefusedAsNew first (planOf text) place × (kindAt (planOf text) place ≡ DecimalEllipse)
+  unfolding spans
+  of-plan ok r m e =
+      let v = verdict-is ok in
+      let new = table-new first first-less (length slice) text v r m (rw e refl) in (
+        lowestNew first (planOf text),
+        new-table-refused first first-less (length slice) text v new,
+        first-at-kind-7 (planOf text) (plan-ok first first-less (length slice) text v) new,
+      )
+
+  pub first-refuses : FirstFloatRefuses text made
+  first-refuses ok r m e = rw (made-plan ok) (of-plan ok r m e)
 
 -- ---- demand 3, for every table in which nothing is new to the float
 
@@ -245,4 +263,4 @@ demand-3-for f less again slice values text known accepted ks order e room compl
     let d = demand-3 again slice values text accepted ks order e room complete in
     let both = ordered-again text accepted ks order in
     let known-again : KnownTo f again = λ r m. known r (moved-region (Permᴰ·symm (both .moved)) (rw e at m)) in
-    for-float f less text again values c d (rw (d .its-plan) (old-table-counted f less again (d .compiles) known-again .0))
+    for-float f less text again values c d (rw (d .its-plan) (old-table-counted f less 4096 again (d .compiles) known-again .0))
