@@ -4,8 +4,8 @@
     tests/vectors.py [--gatecount COMMAND] [--plans COMMAND]
 
 Each event goes through gatecount alone, so that its counts tell of which regions it is a member. The numbers of a vector are those of the
-document's example; what an example has and a table has not (transformed scales, and the parents that need them) is left out. Where a number of
-an example is not whole, all are multiplied; the heading says by what. Where the document and the requirement differ, in outlines that enclose a place
+document's example; what an example has and a table has not (transformed scales, and the parents that need them) is left out. Example
+19, whose matrix has decimals, stands as it is printed and with all its numbers doubled. Where the document and the requirement differ, in outlines that enclose a place
 twice, the requirement rules, and its own marked cases stand here too.
 
 Outlines are not counted, so those vectors are asked as questions `compile` and `judge` (see tests/compare.py): of the
@@ -80,6 +80,14 @@ VECTORS = [
       'ellip myEllipse2 - FSC-H SSC-H 80 80 4538 -938 4538 1'],
      [('80 80', 'myEllipse2'), ('132 28', 'myEllipse2'), ('28 132', 'myEllipse2'), ('122 122', 'myEllipse2'), ('38 38', 'myEllipse2'),
       ('133 27', ''), ('27 133', ''), ('123 123', ''), ('37 37', '')]),
+
+    ('as printed, example 19: axes of 37 along (1, -1) and 30 along (1, 1); and with D² = 2, where (77, 3) and (70, 70) are on the rim',
+     ['dims FSC-H SSC-H',
+      'ellip myEllipse2 - FSC-H SSC-H 40 40 1134.5 -234.5 1134.5 1',
+      'ellip Wider - FSC-H SSC-H 40 40 1134.5 -234.5 1134.5 2.0'],
+     [('40 40', 'myEllipse2 Wider'), ('66 14', 'myEllipse2 Wider'), ('14 66', 'myEllipse2 Wider'), ('61 61', 'myEllipse2 Wider'),
+      ('19 19', 'myEllipse2 Wider'), ('67 13', 'Wider'), ('13 67', 'Wider'), ('62 62', 'Wider'), ('18 18', 'Wider'), ('77 3', 'Wider'),
+      ('70 70', 'Wider'), ('10 10', 'Wider'), ('78 2', ''), ('71 70', ''), ('9 9', '')]),
 
     ('example 21, six quadrants',
      ['dims FSC-H SSC-H',
@@ -164,6 +172,9 @@ FAULTS = {
     'bottom-excluded': ['example 14', 'example 21'],
     'rim-excluded': ['example 18', 'examples 24 and 25'],
     'c12-added': ['example 19'],
+    'decimal-rim-excluded': ['as printed, example 19'],
+    'decimal-d2-taken-for-whole': ['as printed, example 19'],
+    'decimals-rounded-to-whole': ['as printed, example 19'],
     'not-within-parent': ['example 26, its quadrants', 'section 5.5'],
     'combination-without-parent': ['example 26, the parent'],
     'lines-above-only': ['examples 24 and 25', 'section 5.5'],
@@ -217,6 +228,13 @@ OUTLINES = [
      [('147 73', 'myEllipse2'), ('73 147', 'myEllipse2'), ('87 13', 'myEllipse2'), ('13 87', 'myEllipse2'),
       ('147 87', ''), ('146 73', ''), ('148 73', ''), ('132 28', ''), ('80 80', '')]),
 
+    ('as printed, example 19, but for D²: with 2 the rim has (37, -37) and (30, 30) from the middle, with 4.000 it has (67, -7)',
+     ['dims FSC-H SSC-H',
+      'ellip Two - FSC-H SSC-H 40 40 1134.5 -234.5 1134.5 2.0',
+      'ellip Four - FSC-H SSC-H 40 40 1134.5 -234.50 1134.500 4'],
+     [('77 3', 'Two'), ('3 77', 'Two'), ('70 70', 'Two'), ('10 10', 'Two'), ('107 33', 'Four'), ('33 107', 'Four'), ('47 -27', 'Four'),
+      ('76 3', ''), ('71 70', ''), ('40 40', ''), ('106 33', '')]),
+
     ('examples 24 and 25, a box or an ellipse with axes of 10 and 5: neither the box nor a combination has an outline',
      ['dims FSC-H SSC-H',
       'not myBoolean2 - myBoolean',
@@ -249,6 +267,8 @@ OUTLINE_FAULTS = {
     'edges-cancel': ['example 15', 'the square'],
     'closing-edge-left-out': ['example 15'],
     'rim-with-c12-added': ['example 19'],
+    'decimal-rim-said-inside': ['as printed, example 19'],
+    'decimal-rim-as-kind-3': ['as printed, example 19'],
     'outline-out-of-parent': ['example 26'],
     'or-takes-over-outline': ['examples 24 and 25'],
     'box-takes-over-outline': ['examples 24 and 25', 'example 26'],
