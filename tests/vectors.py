@@ -5,8 +5,8 @@
 
 Each event goes through gatecount alone, so that its counts tell of which regions it is a member. The numbers of a vector are those of the
 document's example; what an example has and a table has not (transformed scales, and the parents that need them) is left out. Example
-19, whose matrix has decimals, stands as it is printed and with all its numbers doubled. Where the document and the requirement differ, in outlines that enclose a place
-twice, the requirement rules, and its own marked cases stand here too.
+19, whose matrix has decimals, stands as it is printed and with all its numbers doubled. Where the document and the requirement differ, in
+outlines that enclose a place twice, the requirement rules, and its own marked cases stand here too.
 
 Outlines are not counted, so those vectors are asked as questions `compile` and `judge` (see tests/compare.py): of the
 program at --plans, where it is given, and of the reference program in any case.
