@@ -112,38 +112,30 @@ void polygon_load(struct plan *plan, int vertices) {
     end_step(plan);
 }
 
-void ellipses_load(struct plan *plan, int count) {
-    struct random random = seeded(4);
+/* Ellipses, tilted this way and that; a decimal one has its entries in a scale that takes 128 bits. */
+static void ovals(struct plan *plan, int count, enum gate_kind kind, uint64_t seed, int32_t scale, int32_t distance) {
+    struct random random = seeded(seed);
     begin_plan(plan, 2, count);
     for (int i = 0; i < count; i++) {
-        begin_step(plan, GATE_ELLIPSE, i, GATE_NO_PARENT);
+        begin_step(plan, kind, i, GATE_NO_PARENT);
         add_word(plan, 0);
         add_word(plan, 1);
         add_word(plan, from_to(&random, -8000, 8000));
         add_word(plan, from_to(&random, -8000, 8000));
-        add_word(plan, from_to(&random, 2500000, 3500000));
-        add_word(plan, from_to(&random, -1000000, 1000000));
-        add_word(plan, from_to(&random, 2500000, 3500000));
-        add_word(plan, 1024);
+        add_word(plan, from_to(&random, 2500000 * scale, 3500000 * scale));
+        add_word(plan, from_to(&random, -1000000 * scale, 1000000 * scale));
+        add_word(plan, from_to(&random, 2500000 * scale, 3500000 * scale));
+        add_word(plan, distance);
         end_step(plan);
     }
 }
 
+void ellipses_load(struct plan *plan, int count) {
+    ovals(plan, count, GATE_ELLIPSE, 4, 1, 1024);
+}
+
 void decimal_ellipses_load(struct plan *plan, int count) {
-    struct random random = seeded(7);
-    begin_plan(plan, 2, count);
-    for (int i = 0; i < count; i++) {
-        begin_step(plan, GATE_DECIMAL_ELLIPSE, i, GATE_NO_PARENT);
-        add_word(plan, 0);
-        add_word(plan, 1);
-        add_word(plan, from_to(&random, -8000, 8000));
-        add_word(plan, from_to(&random, -8000, 8000));
-        add_word(plan, from_to(&random, 1250000000, 1750000000));
-        add_word(plan, from_to(&random, -500000000, 500000000));
-        add_word(plan, from_to(&random, 1250000000, 1750000000));
-        add_word(plan, 2048500);
-        end_step(plan);
-    }
+    ovals(plan, count, GATE_DECIMAL_ELLIPSE, 7, 500, 2048500);
 }
 
 void even_events(int32_t *events, int n, size_t count) {

@@ -262,10 +262,10 @@ def s_in_32_bits(x0, y0, x1, y1, x, y, last):
     return s % 2 ** 32 == 0 and min(x0, x1) <= x <= max(x0, x1) and min(y0, y1) <= y <= max(y0, y1)
 
 
-def ellipse_sides(sides):
-    """On the rim where two sides reckoned otherwise are equal."""
+def ellipse_sides(sides, position='ellipse_position'):
+    """On the rim where two sides reckoned otherwise are equal; what is outside stays so."""
     def answer(mean_x, mean_y, c11, c12, c22, d2, x, y):
-        if _ORIGINAL['ellipse_position'](mean_x, mean_y, c11, c12, c22, d2, x, y) == gates.OUTSIDE:
+        if _ORIGINAL[position](mean_x, mean_y, c11, c12, c22, d2, x, y) == gates.OUTSIDE:
             return gates.OUTSIDE
         left, right = sides(x - mean_x, y - mean_y, c11, c12, c22, d2)
         return gates.ON_OUTLINE if left == right else gates.INSIDE
@@ -776,13 +776,7 @@ def decimal_holds(sides, inside=lambda left, right: left <= right):
 
 
 def decimal_rim(sides):
-    """On the rim where two sides reckoned otherwise are equal; what is outside stays so."""
-    def answer(mean_x, mean_y, c11, c12, c22, d2, x, y):
-        if _ORIGINAL['decimal_ellipse_position'](mean_x, mean_y, c11, c12, c22, d2, x, y) == gates.OUTSIDE:
-            return gates.OUTSIDE
-        left, right = sides(x - mean_x, y - mean_y, c11, c12, c22, d2)
-        return gates.ON_OUTLINE if left == right else gates.INSIDE
-    return {'decimal_ellipse_position': answer}
+    return {'decimal_ellipse_position': ellipse_sides(sides, 'decimal_ellipse_position')}
 
 
 def range_aboard(entry=None, d2=None):

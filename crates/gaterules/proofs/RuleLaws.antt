@@ -16,7 +16,7 @@ use Rattle.decimals.specs.Decimals.{isDecimal, thousandths}
 use Rattle.decimals.specs.Inner.Kept.{readDecimal}
 use Rattle.decimals.specs.declared.Decimal.the-variants.{Bad as BadDecimal, Thousandths}
 use Rattle.decimals.proofs.DecimalLaws.{bad-decimal, value-decimal, decimal-within}
-use Rattle.gates.proofs.AcceptedLaws.{Bound, DecimalBound}
+use Rattle.gates.specs.Inner.Bounds.{Bound, DecimalBound}
 use Rattle.gates.specs.Rules.{unless, numberRefusal, decimalRefusal}
 
 pub last-below : (f : ℕ → Bool) (n : ℕ) → last f 0 n ≤ n

@@ -3,7 +3,7 @@ ghost use mathlib.Core.Path.{_≡_};
 ghost use Prim.Native.Nat.{_+_, _≤_, min};
 ghost use lib.ListN.{drop};
 ghost use Rattle.text.specs.Lines.{fields};
-ghost use Rattle.gates.proofs.AcceptedLaws.{Bound, DecimalBound};
+ghost use Rattle.gates.specs.Inner.Bounds.{Bound, DecimalBound};
 ghost use Rattle.gates.specs.Rules.{rectRule, polyRule, ellipRule, dividerRule, dividerOf, quadRule, bodyRule, ruleOf, isDimension};
 ghost use Rattle.gates.specs.Rules.{dimensionPasses, numberRefusal, decimalRefusal, optionalRefusal, fieldRefusal, fieldsRefusal, unless as unlessOf, repeated as isRepeated, uncrossed as risesOf};
 use decimals::Decimal;

@@ -18,8 +18,9 @@ use Rattle.gates.specs.Kinds.{fieldAt, valueOf, thousandthsOf}
 use Rattle.gates.specs.Rules.{noRefusal, numberRefusal, decimalRefusal, ellipRule, ruleOf}
 use Rattle.gates.specs.Gate.{Event, ellip, decimalEllip}
 use Rattle.gates.specs.Meaning.{valueUnder, inEllip, inDecimalEllip, holds}
+use Rattle.gates.specs.Inner.Bounds.{Bound, DecimalBound}
 use Rattle.gates.specs.Outlines.{onEllip, onDecimalEllip, outlineHolds}
-use Rattle.gates.proofs.AcceptedLaws.{Accepted, Bound, DecimalBound, earned-none, number-within, value-is, thousandths-is}
+use Rattle.gates.proofs.AcceptedLaws.{Accepted, earned-none, number-within, value-is, thousandths-is}
 
 -- fs is gs with zeros behind points: in each of c11, c12, c22 and D² so many, at most three, none of them without a point; all else is the same
 pub record SameButZeros (fs gs : List (List ℕ)) : Type 0 where

@@ -16,7 +16,7 @@ use Rattle.plans.specs.Form.{Float, today, first, kindAt, regionAt, leng
 use Rattle.plans.specs.NewWords.{newStepWord, newWord, oldWord, lowestNew, holdsNew}
 use Rattle.plans.specs.declared.Kind.{Kind}
 use Rattle.plans.specs.declared.Kind.the-variants.{Box, Polygon, Ellipse, And, Or, Not, DecimalEllipse, Unknown}
-use Rattle.plans.proofs.IndexLaws.{clash, and-both, first-same, first-before, first-at, first-to, first-none, first-is}
+use Rattle.plans.proofs.IndexLaws.{clash, and-both, and-right-false, first-same, first-before, first-at, first-to, first-none, first-is}
 use Rattle.plans.proofs.KindLaws.{spans-both}
 use Rattle.plans.proofs.PlanTheorems.{Form, form→passed, passed→form}
 
@@ -44,16 +44,37 @@ and-true : (x : Bool) → (x && true) ≡ x
 and-true true = refl
 and-true false = refl
 
-and-false : (x : Bool) → (x && false) ≡ false
-and-false true = refl
-and-false false = refl
-
 same-start : (at i : ℕ) → at ≤ i → eqb (i - at) 0 ≡ eqb i at
 same-start at i h = go (ℕ-discrete i at)
   where
     go : Dec (i ≡ at) → eqb (i - at) 0 ≡ eqb i at
     go (yes e) = rw (eq-eqb i at e, eq-eqb (i - at) 0 (omega arith))
     go (no n) = rw (ne-eqb i at n, ne-eqb (i - at) 0 (λ z. n (omega arith)))
+
+-- ---- the lowest new word, to any float
+
+module _ (f : Float) (p : List ℤ) where
+  pub lowest-inside : holdsNew f p ≡ true → lowestNew f p < length p
+  unfolding holdsNew
+  lowest-inside e = ltb-true (lowestNew f p) (length p) e
+
+  -- it is new, and those before it are not
+  pub lowest-is-new : holdsNew f p ≡ true → newWord f p (lowestNew f p) ≡ true
+  unfolding lowestNew oldWord
+  lowest-is-new e = not-false _ (first-at (oldWord f p) 0 (length p) (let l = lowest-inside e in omega arith))
+
+  pub nothing-before : (i : ℕ) → i < lowestNew f p → newWord f p i ≡ false
+  unfolding lowestNew oldWord
+  nothing-before i l = not-true _ (first-before (oldWord f p) 0 (length p) i (omega arith) l)
+
+  -- any new word within the plan is one
+  pub holds-some : (i : ℕ) → i < length p → newWord f p i ≡ true → holdsNew f p ≡ true
+  unfolding holdsNew
+  holds-some i l e = lt-ltb (lowestNew f p) (length p) (go (decLt (lowestNew f p) (length p)))
+    where
+      go : Dec (lowestNew f p < length p) → lowestNew f p < length p
+      go (yes h) = h
+      go (no h) = absurd (clash (sym e ∙ nothing-before i (omega arith)))
 
 next-later : (p : List ℤ) (at : ℕ) → at + 4 ≤ nextAt p at
 unfolding nextAt
@@ -68,7 +89,7 @@ module _ (f : Float) (less : KnowsLess f) where
     where
       go : (b : Bool) → f .knows kind ≡ b → b ≡ (known kind && not (true && not b))
       go true e = rw (less kind e)
-      go false e = sym (and-false (known kind))
+      go false e = sym (and-right-false (known kind))
 
   -- a test that differs from another only where b says so
   differ-at : (b x y other : Bool) → x ≡ (y && not (true && not x)) → cond b x other ≡ (cond b y other && not (b && not x))
@@ -203,25 +224,13 @@ module _ (f : Float) (less : KnowsLess f) where
         unfolding lowestNew oldWord
         lowest-is = first-is (oldWord f p) 0 (length p) place (omega arith) (omega arith) (λ j a m. rw (old j m)) (rw new)
 
-        holds-it : holdsNew f p ≡ true
-        unfolding holdsNew
-        holds-it = rw lowest-is (lt-ltb place (length p) inside)
-
         pub refused-at-new : checkFor f p ≡ refused 22 place
-        refused-at-new = new-refused holds-it ∙ ap (refused 22) lowest-is
+        refused-at-new = new-refused (holds-some f p place inside new) ∙ ap (refused 22) lowest-is
 
       -- the lowest new word is that of a kind which today knows and the float does not
-      module _ (new : holdsNew f p ≡ true) where
-        inside : lowestNew f p < length p
-        unfolding holdsNew
-        inside = ltb-true (lowestNew f p) (length p) new
-
-        is-new : newWord f p (lowestNew f p) ≡ true
-        unfolding lowestNew oldWord
-        is-new = not-false _ (first-at (oldWord f p) 0 (length p) (let l = inside in omega arith))
-
-        pub new-kind : (f .knows (kindAt p (lowestNew f p)) ≡ false) × (known (kindAt p (lowestNew f p)) ≡ true)
-        new-kind = kind-at-new (lowestNew f p) is-new (passed→form today p ok .1 .words (lowestNew f p) inside)
+      pub new-kind : holdsNew f p ≡ true → (f .knows (kindAt p (lowestNew f p)) ≡ false) × (known (kindAt p (lowestNew f p)) ≡ true)
+      new-kind new =
+          kind-at-new (lowestNew f p) (lowest-is-new f p new) (passed→form today p ok .1 .words (lowestNew f p) (lowest-inside f p new))
 
 -- for a float of the first issue: kind 7
 pub first-at-kind-7 : (p : List ℤ) → checkOf p ≡ passed → holdsNew first p ≡ true → kindAt p (lowestNew first p) ≡ DecimalEllipse

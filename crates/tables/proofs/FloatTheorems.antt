@@ -5,12 +5,10 @@ use mathlib.Core.Logic.{_⊎_, inl, inr, ⊎-elim}
 use mathlib.Core.List.{List, [], _∷_, _++_, append-assoc, List·Memᴰ·head as here, List·Memᴰ·tail as there, List·Memᴰ·cases-cons, List·Memᴰ·not-nil, Permᴰ·symm}
 use Prim.Native.Nat.{ℕ, zero, suc, _+_, _%_, _<_, _≤_}
 use native.Mathlib.Omega.{arith}
-use native.Mathlib.Decide.{decLt}
 use lib.Dec.{ltb, eqb}
 use lib.IntN.{ℤ, pos}
 use lib.ListN.{length, length-append}
-use borrow.Author.Tests.{lt-ltb, le-ltb, eq-eqb, ltb-true, not-true, not-false}
-use Rattle.plans.specs.Indices.{firstBad}
+use borrow.Author.Tests.{lt-ltb, le-ltb, eq-eqb}
 use Rattle.plans.specs.Bits.{hasBit, withBit}
 use Rattle.plans.specs.Refusals.{passed, refused}
 use Rattle.plans.specs.Words.{word, number}
@@ -19,8 +17,8 @@ use Rattle.plans.specs.Kinds.{spans}
 use Rattle.plans.specs.NewWords.{newStepWord, newWord, oldWord, lowestNew, holdsNew}
 use Rattle.plans.specs.declared.Kind.the-variants.{DecimalEllipse}
 use Rattle.plans.proofs.BitLaws.{no-bit}
-use Rattle.plans.proofs.IndexLaws.{clash, and-right-false, first-none, first-before, first-at}
-use Rattle.plans.proofs.FloatTheorems.{KnowsLess, first-less, new-refused, old-passes, first-at-kind-7}
+use Rattle.plans.proofs.IndexLaws.{clash, and-right-false, first-none}
+use Rattle.plans.proofs.FloatTheorems.{KnowsLess, first-less, lowest-is-new, nothing-before, holds-some, new-refused, old-passes, first-at-kind-7}
 use Rattle.counter.specs.Counting.{noTally, countFor, countOf}
 use Rattle.counter.proofs.FloatTheorems.{counts-as-today, new-uncounted, old-counted}
 use Rattle.gates.specs.Gate.{Region, regions}
@@ -116,26 +114,6 @@ module _ (f : Float) (rs : List Region) where
           let l = h .0 in
           ⊎-elim (λ q. inr (here q)) inl (with-cases w x r (omega arith) b)
       go (inr m) = inr (there m)
-
--- a new word within the plan
-holds-some : (f : Float) (p : List ℤ) (i : ℕ) → i < length p → newWord f p i ≡ true → holdsNew f p ≡ true
-unfolding holdsNew lowestNew oldWord
-holds-some f p i l e = lt-ltb _ _ (go (decLt (firstBad (λ j. not (newWord f p j)) 0 (length p)) (length p)))
-  where
-    go : Dec (firstBad (λ j. not (newWord f p j)) 0 (length p) < length p) → firstBad (λ j. not (newWord f p j)) 0 (length p) < length p
-    go (yes h) = h
-    go (no h) = absurd (clash (sym (rw e at (first-before (λ j. not (newWord f p j)) 0 (length p) i (omega arith) (omega arith)))))
-
--- the lowest new word is new, and the words before it are not
-lowest-is-new : (f : Float) (p : List ℤ) → holdsNew f p ≡ true → newWord f p (lowestNew f p) ≡ true
-unfolding holdsNew lowestNew oldWord
-lowest-is-new f p e =
-    let l = ltb-true (firstBad (λ j. not (newWord f p j)) 0 (length p)) (length p) e in
-    not-false _ (first-at (λ j. not (newWord f p j)) 0 (length p) (omega arith))
-
-nothing-before : (f : Float) (p : List ℤ) (i : ℕ) → i < lowestNew f p → newWord f p i ≡ false
-unfolding lowestNew oldWord
-nothing-before f p i l = not-true _ (first-before (λ j. not (newWord f p j)) 0 (length p) i (omega arith) l)
 
 -- ---- the plan of regions
 
