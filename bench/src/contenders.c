@@ -1,4 +1,4 @@
-/* What is timed: counters, functions that only test a polygon, and the pass that only looks for spoilt values. */
+/* What is timed: counters, functions that only test a polygon, and the passes of limit.h. */
 #define _POSIX_C_SOURCE 200809L
 
 #include "contenders.h"
@@ -40,7 +40,10 @@ void add_boost(const char *file) {
 
 void add_java(const char *classes) { add_contender("Java 2D", JAVA, POLYGONS)->java.classes = classes; }
 
-void add_one_pass(void) { add_contender("one pass", ONE_PASS, COUNTS); }
+void add_limits(void) {
+    add_contender("one pass", ONE_PASS, COUNTS);
+    add_contender("heights", HEIGHTS, POLYGONS);
+}
 
 /* ---- Java, which runs beside this process and makes a pass when it is sent a line ---- */
 
@@ -119,6 +122,7 @@ double count_pass(struct contender *contender, const struct load *load, uint64_t
         break;
     case JAVA: return java_pass(contender, &out[GATE_OUT_COUNTS]);
     case ONE_PASS: out[GATE_OUT_SPOILT_COUNT] = spoilt_events(load->events, load->count, dimensions(load)); break;
+    case HEIGHTS: out[0] = heights_above(vertices(load), vertices_len(load), load->events, load->count); break;
     }
     return now() - start;
 }

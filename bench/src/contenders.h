@@ -1,4 +1,4 @@
-/* What is timed: counters, functions that only test a polygon, and the pass that only looks for spoilt values. */
+/* What is timed: counters, functions that only test a polygon, and the passes of limit.h. */
 #ifndef CONTENDERS_H
 #define CONTENDERS_H
 
@@ -11,7 +11,7 @@
 typedef uint64_t inside_function(const int32_t *vertices, size_t vertices_len,
                                  const int32_t *events, size_t events_len);
 
-enum contender_kind { COUNTER, INSIDE_FUNCTION, JAVA, ONE_PASS };
+enum contender_kind { COUNTER, INSIDE_FUNCTION, JAVA, ONE_PASS, HEIGHTS };
 
 struct contender {
     const char *name;
@@ -34,7 +34,7 @@ extern int contender_count;
 void add_counter(char *argument); /* NAME=LIB.so */
 void add_boost(const char *file);
 void add_java(const char *classes);
-void add_one_pass(void);
+void add_limits(void);
 
 /* Before the first pass over a load, and after the last. */
 void begin_passes(struct contender *contender, const struct load *load);
@@ -42,7 +42,8 @@ void end_passes(struct contender *contender);
 
 /*
  * One pass over the events, its nanoseconds of processor time: what other programs take meanwhile does not count.
- * Those that only test a polygon give the count of region 0, and one pass the number of spoilt events.
+ * Those that only test a polygon give the count of region 0, one pass the number of spoilt events, and heights its
+ * number in the first word.
  */
 typedef double pass_function(struct contender *contender, const struct load *load, uint64_t *out);
 

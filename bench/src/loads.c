@@ -18,6 +18,8 @@ const int32_t *vertices(const struct load *load) { return load->plan.words + VER
 
 size_t vertices_len(const struct load *load) { return load->plan.len - VERTICES_AT; }
 
+int vertex_count(const struct load *load) { return load->group == POLYGONS ? (int)(vertices_len(load) / 2) : 0; }
+
 /* Room for `count` events of the load's plan. */
 static void make_room(struct load *load, size_t count) {
     load->count = count;
@@ -42,6 +44,20 @@ void even_load(struct load *load, const struct shape *shape, size_t count) {
     }
     make_room(load, count);
     even_events(load->events, shape->n, count);
+}
+
+/* ---- Events of one place ---- */
+
+void placed_load(struct load *load, const struct placed_shape *shape, size_t count) {
+    static const char *const outlines[] = {[CONVEX] = "convex", [STAR] = "star", [RANDOM] = "random"};
+    static const char *const places[] = {[INSIDE] = "inside", [OUTSIDE] = "outside", [FAR_AWAY] = "far away"};
+    load->group = POLYGONS;
+    snprintf(load->label, sizeof load->label, "%d vertices, %s, %s", shape->vertices, outlines[shape->outline],
+             places[shape->place]);
+    outline_load(&load->plan, shape->outline, shape->vertices);
+    make_room(load, count);
+    placed_events(load->events, count, shape->place, vertices(load), vertices_len(load));
+    spoil_events(load->events, dimensions(load), count);
 }
 
 /* ---- Tables ---- */

@@ -2,6 +2,7 @@
 #ifndef LOADS_H
 #define LOADS_H
 
+#include "places.h"
 #include "plans.h"
 
 /* Groups of loads; a set of groups is the sum of them. */
@@ -19,8 +20,10 @@ enum group {
     COUNTS = STEPS + POLYGONS + ELLIPSES + DECIMAL_ELLIPSES + TABLES
 };
 
+enum { LABEL_ROOM = 64 };
+
 struct load {
-    char label[64];
+    char label[LABEL_ROOM];
     enum group group;
     struct plan plan;
     int32_t *events;
@@ -38,6 +41,16 @@ struct shape {
 /* Events that are drawn evenly, for a plan of plans.h. */
 void even_load(struct load *load, const struct shape *shape, size_t count);
 
+/* A polygon's outline and where the events are. */
+struct placed_shape {
+    int vertices;
+    enum polygon_outline outline;
+    enum place place;
+};
+
+/* Events that are drawn from one place, for a plan of one polygon; one of 100 is spoilt. */
+void placed_load(struct load *load, const struct placed_shape *shape, size_t count);
+
 /* A table of examples/ by PATH.plan, its plan as gateplan prints it, and PATH.events, words in native order. */
 void table_load(struct load *load, const char *path);
 
@@ -52,5 +65,8 @@ size_t events_len(const struct load *load);
 const int32_t *vertices(const struct load *load);
 
 size_t vertices_len(const struct load *load);
+
+/* How many vertices the polygon has, 0 in a load of another group. */
+int vertex_count(const struct load *load);
 
 #endif

@@ -25,8 +25,7 @@ uint64_t below(struct random *random, uint64_t limit) {
 
 static bool one_in(struct random *random, uint64_t limit) { return below(random, limit) == 0; }
 
-/* From low to high. */
-static int32_t from_to(struct random *random, int32_t low, int32_t high) {
+int32_t from_to(struct random *random, int32_t low, int32_t high) {
     return (int32_t)(low + (int64_t)below(random, (uint64_t)((int64_t)high - low + 1)));
 }
 
@@ -98,16 +97,43 @@ void combinations_load(struct plan *plan, int n) {
     }
 }
 
-void polygon_load(struct plan *plan, int vertices) {
-    struct random random = seeded(5);
+static void begin_polygon(struct plan *plan) {
     begin_plan(plan, 2, 1);
     begin_step(plan, GATE_POLYGON, 0, GATE_NO_PARENT);
     add_word(plan, 0);
     add_word(plan, 1);
-    for (int i = 0; i < vertices; i++) {
-        double angle = 2 * acos(-1.0) * i / vertices, radius = from_to(&random, 30000, 60000);
-        add_word(plan, (int32_t)(radius * cos(angle)));
-        add_word(plan, (int32_t)(radius * sin(angle)));
+}
+
+/* The vertex that is `part` of `parts` of a full turn away from the right. */
+static void add_vertex(struct plan *plan, double part, int parts, double radius) {
+    double angle = 2 * acos(-1.0) * part / parts;
+    add_word(plan, (int32_t)(radius * cos(angle)));
+    add_word(plan, (int32_t)(radius * sin(angle)));
+}
+
+static void add_star(struct random *random, struct plan *plan, int vertices, int32_t reach) {
+    for (int i = 0; i < vertices; i++) add_vertex(plan, i, vertices, from_to(random, reach / 2, reach));
+}
+
+void polygon_load(struct plan *plan, int vertices) {
+    struct random random = seeded(5);
+    begin_polygon(plan);
+    add_star(&random, plan, vertices, 60000);
+    end_step(plan);
+}
+
+void outline_load(struct plan *plan, enum polygon_outline outline, int vertices) {
+    enum { REACH = 30000 };
+    const double turned = 0.3; /* by this part of an edge no edge is level and no two vertices are of one height */
+    struct random random = seeded(8);
+    begin_polygon(plan);
+    switch (outline) {
+    case CONVEX:
+        for (int i = 0; i < vertices; i++) add_vertex(plan, i + turned, vertices, REACH);
+        break;
+    case STAR: add_star(&random, plan, vertices, REACH); break;
+    case RANDOM:
+        for (int i = 0; i < 2 * vertices; i++) add_word(plan, from_to(&random, -REACH, REACH));
     }
     end_step(plan);
 }
@@ -141,6 +167,10 @@ void decimal_ellipses_load(struct plan *plan, int count) {
 void even_events(int32_t *events, int n, size_t count) {
     struct random random = seeded(3);
     for (size_t i = 0; i < count * n; i++) events[i] = any_value(&random);
+    spoil_events(events, n, count);
+}
+
+void spoil_events(int32_t *events, int n, size_t count) {
     for (size_t i = 0; i < count; i += 100) events[i * n] = 70000;
 }
 

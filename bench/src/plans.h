@@ -29,6 +29,9 @@ struct random seeded(uint64_t seed);
 /* From 0 to limit - 1. */
 uint64_t below(struct random *random, uint64_t limit);
 
+/* From low to high. */
+int32_t from_to(struct random *random, int32_t low, int32_t high);
+
 /* ---- Loads for timing ---- */
 
 /* Boxes over all n dimensions that hold half of the events each; the parent of i is (i - 1) / 2, or none has one. */
@@ -40,6 +43,16 @@ void combinations_load(struct plan *plan, int n);
 /* One star-shaped polygon that holds some 37 % of the events; n is 2. */
 void polygon_load(struct plan *plan, int vertices);
 
+/* How the vertices of a polygon were drawn. */
+enum polygon_outline {
+    CONVEX, /* on a circle, in order of angle */
+    STAR,   /* seen from one point in order of angle; the nearest is half as far as the farthest may be */
+    RANDOM  /* evenly in a square: edges cross each other */
+};
+
+/* One polygon in the middle of the scale, no vertex farther than 30,000 from it either way; n is 2. */
+void outline_load(struct plan *plan, enum polygon_outline outline, int vertices);
+
 /* Ellipses that hold about half of the events each; n is 2. */
 void ellipses_load(struct plan *plan, int count);
 
@@ -48,6 +61,9 @@ void decimal_ellipses_load(struct plan *plan, int count);
 
 /* Events of n values drawn evenly from the whole range; one of 100 is spoilt. */
 void even_events(int32_t *events, int n, size_t count);
+
+/* Spoils one event of 100. */
+void spoil_events(int32_t *events, int n, size_t count);
 
 /* ---- Random plans and events ---- */
 

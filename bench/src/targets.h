@@ -4,9 +4,10 @@
 
 #include "loads.h"
 
-/* The proved counter took this part of the library's time on a load. */
-void note_ratio(enum group group, const char *library, double ratio);
+/* The proved counter took this part of the library's time on the load. */
+void note_ratio(const struct load *load, const char *library, double ratio);
 
-void print_targets(void);
+/* The targets of loads from these groups. */
+void print_targets(unsigned groups);
 
 #endif

@@ -2,10 +2,11 @@
  * timing NAME=LIB.so .. [--boost=LIB.so] [--java=CLASSES] [--table=PATH ..]: times the proved counter, which is named
  * first, and the other libraries in turn on the same plans and events, best of the rounds, and prints its time as a
  * part of theirs. A table is PATH.plan and PATH.events.
- * Environment: EVENTS (1000000), ROUNDS (7).
+ * Environment: EVENTS (1000000), ROUNDS (7), ONLY (polygons: those two tables alone; all).
  */
 #include "contenders.h"
 #include "fail.h"
+#include "limit.h"
 #include "loads.h"
 #include "targets.h"
 
@@ -55,19 +56,22 @@ static size_t out_length(int contender) {
     return load.group == CALLS ? contenders[contender].library.judge_out : GATE_COUNT_OUT;
 }
 
-/* Whether its answer is that of the proved counter. Boost's and Java's may differ, which is printed below the row. */
+/* Whether its answer is the one that it owes. Boost's and Java's may differ, which is printed below the row. */
 static bool agrees(int contender) {
     const uint64_t *answer = answers[contender], *proved = answers[0];
     switch (contenders[contender].kind) {
     case COUNTER: return memcmp(answer, proved, out_length(contender) * sizeof answer[0]) == 0;
     case ONE_PASS: return answer[GATE_OUT_SPOILT_COUNT] == proved[GATE_OUT_SPOILT_COUNT];
+    case HEIGHTS:
+        return answer[0] == searched_heights_above(vertices(&load), vertices_len(&load), load.events, load.count);
     default: return true;
     }
 }
 
 static void demand_agreement(int contender) {
     if (agrees(contender)) return;
-    fprintf(stderr, "%s: %s and %s differ\n", load.label, contenders[0].name, contenders[contender].name);
+    const char *other = contenders[contender].kind == HEIGHTS ? "a search among the heights" : contenders[0].name;
+    fprintf(stderr, "%s: %s and %s differ\n", load.label, other, contenders[contender].name);
     exit(1);
 }
 
@@ -115,6 +119,14 @@ static void print_times(void) {
     printf("\n");
 }
 
+/* How many more events a library has inside than the proved counter, where it has; limits count no events inside. */
+static void print_difference(int contender) {
+    enum contender_kind kind = contenders[contender].kind;
+    int64_t more = (int64_t)(answers[contender][GATE_OUT_COUNTS] - answers[0][GATE_OUT_COUNTS]);
+    if (kind == ONE_PASS || kind == HEIGHTS || more == 0) return;
+    printf("    %s: %+" PRId64 " events inside\n", contenders[contender].name, more);
+}
+
 /* Members: the regions that an event is in, on average. */
 static void count_row(void) {
     time_load(count_pass, contender_count);
@@ -124,34 +136,49 @@ static void count_row(void) {
     print_times();
     for (int i = 1; i < contender_count; i++) {
         if (best[i] == UNTIMED) continue;
-        note_ratio(load.group, contenders[i].name, best[0] / best[i]);
-        int64_t more = (int64_t)(answers[i][GATE_OUT_COUNTS] - answers[0][GATE_OUT_COUNTS]);
-        if (contenders[i].kind != ONE_PASS && more != 0) {
-            printf("    %s: %+" PRId64 " events inside\n", contenders[i].name, more);
-        }
+        note_ratio(&load, contenders[i].name, best[0] / best[i]);
+        print_difference(i);
     }
     fflush(stdout);
 }
 
-static void even_tables(size_t count) {
-    static const struct {
-        const char *title;
-        unsigned groups;
-    } parts[] = {
-        {"Boxes and combinations", STEPS},
-        {"Polygons", POLYGONS},
-        {"Ellipses", ELLIPSES},
-        {"Decimal ellipses", DECIMAL_ELLIPSES},
-    };
-    for (size_t part = 0; part < sizeof parts / sizeof parts[0]; part++) {
-        print_heading(parts[part].title, "event", parts[part].groups);
-        for (int i = 0; i < SHAPES; i++) {
-            if ((parts[part].groups & shapes[i].group) == 0) continue;
-            even_load(&load, &shapes[i], count);
-            count_row();
-            free_load(&load);
+/* Even events for all shapes of these groups. */
+static void even_table(const char *title, unsigned groups, size_t count) {
+    print_heading(title, "event", groups);
+    for (int i = 0; i < SHAPES; i++) {
+        if ((groups & shapes[i].group) == 0) continue;
+        even_load(&load, &shapes[i], count);
+        count_row();
+        free_load(&load);
+    }
+}
+
+static void placed_row(const struct placed_shape *shape, size_t count) {
+    placed_load(&load, shape, count);
+    count_row();
+    uint64_t owed = shape->place == INSIDE ? answers[0][GATE_OUT_TAKEN] : 0;
+    if (answers[0][GATE_OUT_COUNTS] != owed) fail(load.label, "not the members that were drawn");
+    free_load(&load);
+}
+
+static void placed_table(size_t count) {
+    static const int sizes[] = {3, 8, 64, 256};
+    char title[96];
+    snprintf(title, sizeof title, "Polygons by outline and place of the events, %zu events", count);
+    print_heading(title, "event", POLYGONS);
+    for (size_t size = 0; size < sizeof sizes / sizeof sizes[0]; size++) {
+        for (enum polygon_outline outline = CONVEX; outline <= RANDOM; outline++) {
+            for (enum place place = INSIDE; place <= FAR_AWAY; place++) {
+                placed_row(&(struct placed_shape){sizes[size], outline, place}, count);
+            }
         }
     }
+}
+
+/* The second table has 36 rows: a tenth of the events, rounded up, must do. */
+static void polygon_tables(size_t count) {
+    even_table("Polygons", POLYGONS, count);
+    placed_table((count + 9) / 10);
 }
 
 static void examples_table(void) {
@@ -216,6 +243,16 @@ static void linearity_tables(size_t count) {
     }
 }
 
+static void all_tables(size_t count) {
+    even_table("Boxes and combinations", STEPS, count);
+    polygon_tables(count);
+    even_table("Ellipses", ELLIPSES, count);
+    even_table("Decimal ellipses", DECIMAL_ELLIPSES, count);
+    examples_table();
+    call_table();
+    linearity_tables(count);
+}
+
 /* ---- Arguments ---- */
 
 static long setting(const char *name, long standard) {
@@ -223,6 +260,14 @@ static long setting(const char *name, long standard) {
     long value = text == NULL ? standard : strtol(text, NULL, 10);
     if (value < 1) fail(name, "a number from 1 expected");
     return value;
+}
+
+/* Whether ONLY asks for the tables of polygons alone. */
+static bool only_polygons(void) {
+    const char *text = getenv("ONLY");
+    if (text == NULL || text[0] == '\0') return false;
+    if (strcmp(text, "polygons") != 0) fail("ONLY", "polygons expected, or nothing");
+    return true;
 }
 
 static void add_table(const char *path) {
@@ -248,16 +293,15 @@ int main(int argc, char **argv) {
     signal(SIGPIPE, SIG_IGN); /* a pass of Java tells when it has ended */
     size_t count = (size_t)setting("EVENTS", 1000000);
     rounds = (int)setting("ROUNDS", 7);
+    bool only = only_polygons();
     for (int i = 1; i < argc; i++) read_argument(argv[i]);
     if (contender_count == 0 || contenders[0].kind != COUNTER) {
         fail("usage", "timing NAME=LIB.so .. [--boost=LIB.so] [--java=CLASSES] [--table=PATH ..]");
     }
-    add_one_pass();
+    add_limits();
     printf("\n%zu events, 1 in 100 spoilt; in the tables of examples/ none\n", count);
-    even_tables(count);
-    examples_table();
-    call_table();
-    linearity_tables(count);
-    print_targets();
+    if (only) polygon_tables(count);
+    else all_tables(count);
+    print_targets(only ? POLYGONS : COUNTS);
     return 0;
 }
