@@ -1,6 +1,6 @@
 -- Definitions that only inner contracts and proofs cite.
 pub mod Steps
 pub mod Ranges
-pub mod Runs
+pub mod Walks
 pub mod Raising
 pub mod Groups
