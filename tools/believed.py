@@ -21,6 +21,7 @@ GROUPS = (('Demands 1 to 3', DEMANDS), ("The programs' text", None), ('The rows 
 REQUESTS = {
     'a': 'counter/specs/Outlines counter/specs/Positions gates/specs/Outlines tables/specs/Judging tables/specs/Outlines'.split(),
     'b': 'decimals/specs/Decimals counter/specs/DecimalEllipse plans/specs/NewWords tables/specs/Floats'.split(),
+    'c': ['counter/specs/Walk'],
 }
 
 
