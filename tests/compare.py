@@ -4,6 +4,8 @@
     tests/compare.py --gatecount PATH [--plans PATH] [--questions WORDS] [--seed S] [--inputs N] [--keep FOLDER]
     tests/compare.py --plant FAULT ...      with a fault planted in the reference
     tests/compare.py --mutations ...        each planted fault in turn: all must be seen
+    tests/compare.py --mutations walk- ...  those whose names begin so
+    tests/compare.py --edges --plans PATH   an event on each edge of polygons of 3 to 256 vertices, a minute
 
 A PATH may carry arguments ("python3 tests/reference/standin.py gatecount").
 
@@ -55,6 +57,7 @@ refused), the words that follow are the first `words` words of the slice afterwa
 
 import argparse
 import collections
+import itertools
 import os
 import random
 import re
@@ -295,8 +298,7 @@ class Comparison:
                 self.note(good, 'quadrant sums of input %d in order %d' % (number, turn),
                           data, expected, actual)
 
-    def some_questions(self, numbers):
-        asked = [generate.request(self.options.seed, number) for number in numbers]
+    def some_questions(self, asked):
         asked = [(label, question) for label, question in asked if question[0] in self.options.questions]
         lines = [question_line(question) for _, question in asked]
         answers = ask(self.options.plans, lines)
@@ -331,8 +333,16 @@ class Comparison:
         for (what, wanted), line, actual in zip(expected, questions, ask(self.options.plans, questions)):
             self.note(actual == wanted, 'judging by ' + what, line + b'\n', wanted, actual)
 
+    def each_edge(self):
+        """An event on each edge of a polygon of each number of vertices."""
+        edges = generate.each_edge(self.options.seed)
+        for some in iter(lambda: list(itertools.islice(edges, BATCH)), []):
+            self.some_questions(some)
+
     def run(self):
         options = self.options
+        if options.edges:
+            return self.each_edge()
         if options.gatecount:
             for number in range(options.inputs):
                 self.one_input(number)
@@ -344,7 +354,7 @@ class Comparison:
             print('other orders run: %d; quadrant sums: %d' % (self.orders, self.sums))
         if options.plans:
             for start in range(0, options.inputs, BATCH):
-                self.some_questions(range(start, min(start + BATCH, options.inputs)))
+                self.some_questions([generate.request(options.seed, number) for number in range(start, min(start + BATCH, options.inputs))])
             for verb in ('check', 'judge', 'count', 'compile'):
                 print('%s: %s' % (verb, spread({number: times for (other, number), times
                                                 in sorted(self.questions.items()) if other == verb}, False)))
@@ -403,10 +413,10 @@ def mutations(options):
         print('differs without any fault planted: ' + ', '.join(plain))
         seen_failed += 1
     passed = 0
-    for name in plants.PLANTS:
+    for name in [each for each in plants.PLANTS if each.startswith(options.mutations)]:
         with plants.planted(name):
             found = differing(2)
-        print('%-28s %s' % (name, 'seen at ' + ', '.join(found) if found else 'NOT SEEN'))
+        print('%-32s %s' % (name, 'seen at ' + ', '.join(found) if found else 'NOT SEEN'))
         if found:
             passed += 1
         else:
@@ -426,13 +436,16 @@ def main():
     parser.add_argument('--keep', metavar='FOLDER', help='where the first differing inputs go')
     parser.add_argument('--plant', choices=sorted(plants.PLANTS), metavar='FAULT',
                         help='one of: ' + ', '.join(sorted(plants.PLANTS)))
-    parser.add_argument('--mutations', action='store_true')
+    parser.add_argument('--mutations', nargs='?', const='', metavar='BEGINNING', help='the faults whose names begin so, or all')
+    parser.add_argument('--edges', action='store_true', help='asks --plans of an event on each edge of polygons of each size, instead of N inputs')
     options = parser.parse_args()
     if not options.gatecount and not options.plans:
         parser.error('neither --gatecount nor --plans is given')
+    if options.edges and not options.plans:
+        parser.error('--edges asks the program at --plans')
 
-    print('seed %s, %d inputs' % (options.seed, options.inputs))
-    if options.mutations:
+    print('seed %s, %s' % (options.seed, 'each edge' if options.edges else '%d inputs' % options.inputs))
+    if options.mutations is not None:
         passed, failed = mutations(options)
     else:
         comparison = Comparison(options)

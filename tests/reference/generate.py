@@ -4,6 +4,7 @@ Everything hangs on a seed and a number only, so each input can be made again al
 
     case(seed, number)      one standard input for `gatecount`
     request(seed, number)   one question about a plan or a table
+    each_edge(seed)         questions about events on each edge of polygons of every size
     judged(seed, number)    a table, and events to be judged under other orders of its lines
     orders(rng, lines, k)   several orders of a table's gate lines
 
@@ -16,6 +17,7 @@ import random
 from decimal import Decimal
 
 import gates
+import long_outlines
 
 LETTERS = 'ABCDEFGHIJKLMNOPQRSTUVWXYZabcdefghijklmnopqrstuvwxyz'
 SIGNS = LETTERS + '0123456789-_'
@@ -1012,6 +1014,24 @@ def wide_table(rng):
     return table.mix()
 
 
+def long_outline_table(rng, sizes=None):
+    """Polygons with so many vertices, and events at places of them."""
+    table = Table(rng, n=rng.choice((2, 2, 3)), span=(-20, 20))
+    table.parents = 0.0 if sizes else rng.choice((0.0, 0.0, 0.3))
+    sizes = sizes or long_outlines.some_sizes(rng, rng.choice((40, 256, 600)))
+    for size in sizes:
+        line = table.begin(b'poly')
+        first, second = rng.sample(range(table.n), 2)
+        vertices = long_outlines.outline(rng, size)
+        # Off the scale nothing is lost but the shape.
+        vertices = [(clip(x), clip(y)) for x, y in vertices]
+        for _ in range(8):
+            x, y = long_outlines.place(rng, vertices)
+            table.points.append([(first, clip(x)), (second, clip(y))])
+        table.finish_poly(line, first, second, vertices)
+    return table.mix()
+
+
 def plan_size_table(rng, words):
     """A valid table, except perhaps for 17, whose plan has exactly so many words."""
     table = Table(rng, n=2, span=(-9, 99))
@@ -1564,6 +1584,11 @@ def case_outlines(rng):
     return accepted('outlines', table, 25)
 
 
+def case_long_outlines(rng, sizes=None):
+    """Polygons of up to 256 vertices."""
+    return accepted('long outlines', long_outline_table(rng, sizes), 30)
+
+
 def case_decimals(rng):
     """Ellipses with decimals, some with whole ones beside them, and events upon and beside their rims."""
     table = Table(rng, n=rng.choice((2, 2, 3)), span=rng.choice(((-5, 5), (-20, 20), (-65536, 65535))))
@@ -1794,10 +1819,10 @@ FAMILIES = ((140, case_small), (90, case_referring), (110, case_outlines), (60, 
             (10, case_crowded), (3, case_crowded_then_bad), (30, case_twin), (30, case_dead), (40, case_circle),
             (7, case_plan_size), (3, case_polygons), (4, case_table_size), (4, case_long_number),
             (5, case_input_size), (3, case_long_table_part), (40, case_many_events), (90, case_decimals), (15, case_decimal_line),
-            (5, case_decimal_event))
+            (5, case_decimal_event), (35, case_long_outlines))
 
 # The limits of size and one of each refusal stand at the beginning of every run, so that
-# none is left to chance.
+# none is left to chance; so does each number of vertices.
 FIRST = ([lambda rng, size=size: case_table_size(rng, size) for size in (32767, 32768, 32769)]
          + [lambda rng, size=size: case_long_number(rng, size) for size in (32768, 32769)]
          + [lambda rng, size=size: case_input_size(rng, size) for size in (65535, 65536, 65537)]
@@ -1807,6 +1832,7 @@ FIRST = ([lambda rng, size=size: case_table_size(rng, size) for size in (32767, 
          + [lambda rng, style=style: case_list_forms(rng, style) for style in range(10)]
          + [lambda rng, given=given: case_decimal_line(rng, given) for given in DECIMAL_LINES]
          + [lambda rng, line=line: case_point_elsewhere(rng, line) for line in POINTS_ELSEWHERE]
+         + [lambda rng, sizes=sizes: case_long_outlines(rng, sizes) for sizes in long_outlines.TURNS]
          + [case_crowded, case_crowded_then_bad, case_full, case_twin, case_dead, case_circle,
             case_open_table, case_head, case_long_table_part, case_decimal_event])
 _WEIGHTS = [weight for weight, _ in FAMILIES]
@@ -2123,6 +2149,48 @@ def long_words(rng):
     return (words + [7] * 4096)[:rng.choice((4096, 4097))]
 
 
+def long_outline_plan(rng, sizes, edges=None):
+    """Words of a plan of polygons with so many vertices, and an event that is at a place of each; or on these edges, and no other."""
+    n = rng.choice((2, 2, 3))
+    # In a corner of the scale few outlines have room.
+    near = rng.choice(((-9, 9), (-9, 9), (-30000, 30000)))
+    event = [rng.randint(*near) if edges or rng.random() < 0.7 else rng.choice((rng.randint(-65536, 65535), rng.choice(LIMITS))) for _ in range(n)]
+    regions = rng.sample(range(len(sizes)), len(sizes))
+    parents, words = 0.0 if edges else rng.choice((0.0, 0.0, 0.0, 0.1)), [n, len(sizes)]
+    for turn, (region, size) in enumerate(zip(regions, sizes)):
+        first, second = rng.sample(range(n), 2)
+        x, y = event[first], event[second]
+        vertices = long_outlines.through_edge(rng, size, x, y, edges[turn]) if edges else long_outlines.through(rng, size, x, y)
+        parent = rng.choice(regions[:turn]) if turn and rng.random() < parents else -1
+        words += [2, region, parent, 2 + 2 * size, first, second, *[value for point in vertices for value in point]]
+    return words, event
+
+
+# The edges that every run has an event on, for each number of vertices: the closing one, the first and another.
+FIRST_EDGES = (lambda rng, size: size - 1, lambda rng, size: 0, lambda rng, size: rng.randrange(1, size - 1))
+
+
+def each_edge(seed):
+    """Questions with an event on each edge, and no other, of an outline of each number of vertices."""
+    rng = random.Random('%s each edge' % seed)
+    sizes, edges = [], []
+    for size in range(long_outlines.LEAST, long_outlines.MOST + 1):
+        for edge in range(size):
+            if len(sizes) == 64 or sum(6 + 2 * other for other in [*sizes, size]) > 4094:
+                yield 'each edge', ('judge', *long_outline_plan(rng, sizes, edges))
+                sizes, edges = [], []
+            sizes.append(size)
+            edges.append(edge)
+    yield 'each edge', ('judge', *long_outline_plan(rng, sizes, edges))
+
+
+def each_edge_counted(rng, size):
+    """Words of a plan of one polygon, and a list with an event at each of its edges."""
+    vertices = [(clip(x), clip(y)) for x, y in long_outlines.outline(rng, size)]
+    values = [clip(value) for at in range(size) for value in long_outlines.place(rng, vertices, at)]
+    return [2, 1, 2, 0, -1, 2 + 2 * size, 0, 1, *[value for point in vertices for value in point]], values
+
+
 # ---------------------------------------------------------------- questions
 
 def event_for(rng, plan):
@@ -2166,23 +2234,29 @@ def request(seed, number):
         *numbers, dx, dy = FIRST_JUDGED[number - len(FIRST_ELLIPSES)]
         x, y = [-65536 if step > 0 else 65535 if step < 0 else 7 for step in (dx, dy)]
         return 'judged by hand', ('judge', [2, 1, 7, 0, -1, 8, 0, 1, x, y, *numbers], [x + dx, y + dy])
+    turn, sizes = divmod(number - len(FIRST_ELLIPSES) - len(FIRST_JUDGED), len(long_outlines.TURNS))
+    sizes = list(long_outlines.TURNS[sizes])
+    if turn < len(FIRST_EDGES):
+        return 'each number of vertices', ('judge', *long_outline_plan(rng, sizes, [FIRST_EDGES[turn](rng, size) for size in sizes]))
+    if turn == len(FIRST_EDGES):
+        return 'each number of vertices', ('judge', *long_outline_plan(rng, sizes))
     style = rng.random()
     if style < 0.004:
         words = long_words(rng)
         if rng.random() < 0.5:
             return 'long words', ('check', words)
         return 'long words', ('judge', words, [0, 0])
-    if style < 0.26:
+    if style < 0.23:
         return 'damaged plan', ('check', damage_plan(rng, Plan(rng)))
-    if style < 0.31:
+    if style < 0.27:
         return 'good plan', ('check', Plan(rng).words)
-    if style < 0.49:
+    if style < 0.44:
         plan = Plan(rng)
         return 'judged', ('judge', plan.words, event_for(rng, plan))
-    if style < 0.53:
+    if style < 0.48:
         plan = Plan(rng)
         return 'damaged, judged', ('judge', damage_plan(rng, plan), event_for(rng, plan))
-    if style < 0.55:
+    if style < 0.50:
         plan = Plan(rng, 64 if rng.random() < 0.1 else None)
         values = []
         for _ in range(many(rng)):
@@ -2191,7 +2265,7 @@ def request(seed, number):
                 event[rng.randrange(len(event))] = rng.choice((65536, -65537, 2147483647, -2147483648))
             values += event
         return 'counted, many', ('count', plan.words, values)
-    if style < 0.59:
+    if style < 0.54:
         plan = Plan(rng)
         values = []
         for _ in range(rng.choice((0, 1, 3, 8))):
@@ -2200,18 +2274,26 @@ def request(seed, number):
             values = values[1:] + rng.choice(([], [0, 0]))
         words = plan.words if rng.random() < 0.85 else damage_plan(rng, plan)
         return 'counted', ('count', words, values)
-    if style < 0.61:
+    if style < 0.56:
         table = small_table(rng)
         words = gates.compile_table(table.bytes(), 4096)[2]
         return 'compiled, judged', ('judge', words, table.event())
-    if style < 0.71:
+    if style < 0.62:
+        words, event = long_outline_plan(rng, long_outlines.some_sizes(rng, rng.choice((60, 400, 1800, 1800))))
+        if rng.random() < 0.12:
+            # Spoilt by a value that not all of the outlines are over.
+            event[rng.randrange(len(event))] = rng.choice((65536, -65537, 2147483647, -2147483648))
+        return 'long outlines, judged', ('judge', words, event)
+    if style < 0.64:
+        return 'each edge, counted', ('count', *each_edge_counted(rng, long_outlines.some_size(rng)))
+    if style < 0.74:
         table = outline_table(rng)
         words = gates.compile_table(table.bytes(), 4096)[2]
         if rng.random() < 0.1:
             # Malformed only at the end: the steps before could have set their bits.
             words = rng.choice((words[:-1], words + [0], words[:-1] + [rng.choice(ODD_WORDS)]))
         return 'outlines, judged', ('judge', words, event_for(rng, table))
-    if style < 0.73:
+    if style < 0.76:
         table = small_table(rng)
         words = gates.compile_table(table.bytes(), 4096)[2]
         if rng.random() < 0.5:

@@ -384,6 +384,168 @@ def steps_before(words, place):
     return steps
 
 
+# ---------------------------------------------------------------- the walk over the vertices
+
+# Slips of a walk that asks of each edge whether it carries the point, and keeps the sum: over all
+# vertices in turn, by stretches of them, past vertices on one side of the point's height, or with the
+# edge that closes the outline taken apart.  The counts and both sets of a judging follow from these.
+
+def outline_edges(vertices):
+    points = list(zip(vertices[0::2], vertices[1::2]))
+    return list(zip(points, points[1:] + points[:1]))
+
+
+def carried(edge, x, y):
+    (x0, y0), (x1, y1) = edge
+    return edge_rule(x0, y0, x1, y1, x, y, False)
+
+
+def turn_of(edge, x, y):
+    """What an edge adds to the sum."""
+    (x0, y0), (x1, y1) = edge
+    s = (x1 - x0) * (y - y0) - (x - x0) * (y1 - y0)
+    return (y0 <= y < y1 and s > 0) - (y1 <= y < y0 and s < 0)
+
+
+def walked(asked, summed, x, y):
+    """The answer by the edges that are asked whether they carry the point, and by those that are summed."""
+    if any(carried(edge, x, y) for edge in asked):
+        return gates.ON_OUTLINE
+    return gates.INSIDE if sum(turn_of(edge, x, y) for edge in summed) else gates.OUTSIDE
+
+
+def asked_and_summed(parts):
+    """The edges that are asked and those that are summed, by all edges and the point's height."""
+    return {'polygon_position': lambda vertices, x, y: walked(*parts(outline_edges(vertices), y), x, y)}
+
+
+def other_edges(change):
+    """Other edges than those of the outline."""
+    return asked_and_summed(lambda edges, y: (change(edges), change(edges)))
+
+
+def other_vertices(change):
+    """The outline of other vertices."""
+    def edges_of(edges):
+        points = change([start for start, _ in edges])
+        return list(zip(points, points[1:] + points[:1]))
+    return other_edges(edges_of)
+
+
+def sum_after_edge(vertices, x, y):
+    """The answer taken from the sum, which goes on after an edge that carries the point."""
+    return gates.INSIDE if edge_sum(vertices, x, y) else gates.OUTSIDE
+
+
+def forgotten_at_crossing(vertices, x, y):
+    """That an edge carries the point, forgotten at a later edge that adds or takes 1."""
+    on, total = False, 0
+    for edge in outline_edges(vertices):
+        on = carried(edge, x, y) or (on and not turn_of(edge, x, y))
+        total += turn_of(edge, x, y)
+    return gates.ON_OUTLINE if on else gates.INSIDE if total else gates.OUTSIDE
+
+
+def asked_while_sum_is_0(vertices, x, y):
+    """Whether an edge carries the point not asked while the sum isn't 0."""
+    total = 0
+    for edge in outline_edges(vertices):
+        if carried(edge, x, y) and total == 0:
+            return gates.ON_OUTLINE
+        total += turn_of(edge, x, y)
+    return gates.INSIDE if total else gates.OUTSIDE
+
+
+def sum_in_bits(bits):
+    def answer(vertices, x, y):
+        found = _ORIGINAL['polygon_position'](vertices, x, y)
+        return gates.OUTSIDE if found == gates.INSIDE and edge_sum(vertices, x, y) % (1 << bits) == 0 else found
+    return {'polygon_position': answer}
+
+
+def stretches(edges, size):
+    return [edges[at:at + size] for at in range(0, len(edges), size)]
+
+
+def last_stretch_only(size):
+    """That an edge carries the point, forgotten at the end of a stretch."""
+    return asked_and_summed(lambda edges, y: (stretches(edges, size)[-1], edges))
+
+
+def any_stretch_sum(size):
+    """Inside where the sum of some stretch isn't 0."""
+    def answer(vertices, x, y):
+        parts = stretches(outline_edges(vertices), size)
+        if any(carried(edge, x, y) for part in parts for edge in part):
+            return gates.ON_OUTLINE
+        return gates.INSIDE if any(sum(turn_of(edge, x, y) for edge in part) for part in parts) else gates.OUTSIDE
+    return {'polygon_position': answer}
+
+
+def stretch_passed(size, passes):
+    """Stretches passed by the heights of their vertices less the point's, the end of the last edge among them."""
+    def parts(edges, y):
+        left = [edge for part in stretches(edges, size)
+                if not passes([start[1] - y for start, _ in part] + [part[-1][1][1] - y]) for edge in part]
+        return left, left
+    return asked_and_summed(parts)
+
+
+def one_side(heights):
+    return min(heights) > 0 or max(heights) < 0
+
+
+def summed_by(adds):
+    """The sum by another rule for the heights of an edge's ends, less the point's."""
+    def answer(vertices, x, y):
+        total = 0
+        for (x0, y0), (x1, y1) in outline_edges(vertices):
+            s = (x1 - x0) * (y - y0) - (x - x0) * (y1 - y0)
+            total += (adds(y0 - y, y1 - y) and s > 0) - (adds(y1 - y, y0 - y) and s < 0)
+        found = _ORIGINAL['polygon_position'](vertices, x, y)
+        return found if found == gates.ON_OUTLINE else gates.INSIDE if total else gates.OUTSIDE
+    return {'polygon_position': answer}
+
+
+def falling_by_other_end(vertices, x, y):
+    """An edge that rises counts at its lower end, one that falls at its upper."""
+    found, total = _ORIGINAL['polygon_position'](vertices, x, y), 0
+    for (x0, y0), (x1, y1) in outline_edges(vertices):
+        s = (x1 - x0) * (y - y0) - (x - x0) * (y1 - y0)
+        total += (y0 <= y < y1 and s > 0) - (y1 < y <= y0 and s < 0)
+    return found if found == gates.ON_OUTLINE else gates.INSIDE if total else gates.OUTSIDE
+
+
+def rest_left_out(size):
+    """Edges that fill no group of so many left out, the closing one aside."""
+    return other_edges(lambda edges: edges[:(len(edges) - 1) // size * size] + edges[-1:])
+
+
+def rest_of_long_left_out(size):
+    """Likewise, only where there is a whole group."""
+    return other_edges(lambda edges: edges[:(len(edges) - 1) // size * size] + edges[-1:] if len(edges) > size else edges)
+
+
+def first_edges_of_stretches(size, change):
+    """Another edge, or none, where a stretch begins, the first stretch aside."""
+    def changed(edges):
+        return [other for at, edge in enumerate(edges)
+                for other in (change(edges, at) if at and at % size == 0 else [edge])]
+    return other_edges(changed)
+
+
+def begun_at_first(edges, at):
+    return [(edges[0][0], edges[at][1])]
+
+
+def begun_one_early(edges, at):
+    return [(edges[at - 1][0], edges[at][1])]
+
+
+def begun_one_late(edges, at):
+    return [(edges[at][1], edges[at][1])]
+
+
 # ---------------------------------------------------------------- ashore
 
 def ranges_of_the_well_formed(gate, head):
@@ -876,6 +1038,57 @@ PLANTS = {
     'malformed-keeps-outline': {'judge': refused_with_outline(22)},
     'ragged-keeps-outline': {'judge': refused_with_outline(23)},
     'spoilt-keeps-outline': {'judge': refused_with_outline(24)},
+    # The walk over the vertices: its first edges and its last.
+    'walk-closing-edge-not-asked': asked_and_summed(lambda edges, y: (edges[:-1], edges)),
+    'walk-closing-edge-not-summed': asked_and_summed(lambda edges, y: (edges, edges[:-1])),
+    'walk-closing-edge-twice': asked_and_summed(lambda edges, y: (edges, edges + edges[-1:])),
+    'walk-closing-edge-backwards': other_edges(lambda edges: edges[:-1] + [edges[-1][::-1]]),
+    'walk-closed-at-the-second': other_edges(lambda edges: edges[:-1] + [(edges[-1][0], edges[0][1])]),
+    'walk-first-edge-twice': asked_and_summed(lambda edges, y: (edges, edges[:1] + edges)),
+    'walk-first-edge-left-out': other_edges(lambda edges: edges[1:]),
+    'walk-first-edge-not-asked': asked_and_summed(lambda edges, y: (edges[1:], edges)),
+    'walk-last-vertex-left-out': other_vertices(lambda points: points[:-1]),
+    # Its edges and their sum.
+    'walk-sum-after-an-edge': {'polygon_position': sum_after_edge},
+    'walk-edge-forgotten-at-crossing': {'polygon_position': forgotten_at_crossing},
+    'walk-edge-asked-while-sum-is-0': {'polygon_position': asked_while_sum_is_0},
+    'walk-edge-of-last-8-only': last_stretch_only(8),
+    'walk-edge-of-last-64-only': last_stretch_only(64),
+    'walk-sums-of-8-not-added': any_stretch_sum(8),
+    'walk-sums-of-64-not-added': any_stretch_sum(64),
+    'walk-sum-in-4-bits': sum_in_bits(4),
+    'walk-sum-in-6-bits': sum_in_bits(6),
+    # Vertices passed over.
+    'walk-edge-at-or-above-passed': stretch_passed(1, lambda heights: min(heights) >= 0),
+    'walk-edge-at-or-above-not-asked': asked_and_summed(lambda edges, y: ([edge for edge in edges if min(edge[0][1], edge[1][1]) < y], edges)),
+    'walk-edge-at-or-below-passed': stretch_passed(1, lambda heights: max(heights) <= 0),
+    'walk-edge-at-a-height-passed': stretch_passed(1, lambda heights: heights == [0, 0]),
+    'walk-4-at-or-above-passed': stretch_passed(4, lambda heights: min(heights) >= 0),
+    'walk-4-at-or-below-passed': stretch_passed(4, lambda heights: max(heights) <= 0),
+    'walk-16-at-or-above-passed': stretch_passed(16, lambda heights: min(heights) >= 0),
+    'walk-16-at-or-below-passed': stretch_passed(16, lambda heights: max(heights) <= 0),
+    'walk-16-passed-by-their-ends': stretch_passed(16, lambda heights: one_side([heights[0], heights[-1]])),
+    'walk-16-passed-without-last-end': stretch_passed(16, lambda heights: one_side(heights[:-1])),
+    'walk-16-passed-without-first': stretch_passed(16, lambda heights: one_side(heights[1:])),
+    'walk-both-ends-summed': summed_by(lambda start, end: start <= 0 <= end and start != end),
+    'walk-no-end-summed': summed_by(lambda start, end: start < 0 < end),
+    'walk-falling-by-other-end': {'polygon_position': falling_by_other_end},
+    # Its length, and its stretches.
+    'walk-rest-after-4s-left-out': rest_left_out(4),
+    'walk-rest-after-8s-left-out': rest_left_out(8),
+    'walk-rest-after-64s-left-out': rest_of_long_left_out(64),
+    'walk-64-vertices-only': other_vertices(lambda points: points[:64]),
+    'walk-128-vertices-only': other_vertices(lambda points: points[:128]),
+    'walk-255-vertices-only': other_vertices(lambda points: points[:255]),
+    'walk-number-in-8-bits': other_vertices(lambda points: points[:len(points) % 256]),
+    'walk-edge-between-8s-left-out': first_edges_of_stretches(8, lambda edges, at: []),
+    'walk-edge-between-64s-left-out': first_edges_of_stretches(64, lambda edges, at: []),
+    'walk-8s-begun-at-first-vertex': first_edges_of_stretches(8, begun_at_first),
+    'walk-64s-begun-at-first-vertex': first_edges_of_stretches(64, begun_at_first),
+    'walk-8s-begun-one-early': first_edges_of_stretches(8, begun_one_early),
+    'walk-64s-begun-one-early': first_edges_of_stretches(64, begun_one_early),
+    'walk-64s-begun-one-late': first_edges_of_stretches(64, begun_one_late),
+    'walk-128s-begun-one-late': first_edges_of_stretches(128, begun_one_late),
     # Decimals: forms and values.
     'minus-zero-with-decimals': {'is_decimal': form_taken(rb'-0[.]0{1,3}')},
     'minus-zero-beside-decimals': {'is_decimal': form_taken(rb'-0')},

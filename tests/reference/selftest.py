@@ -20,6 +20,7 @@ sys.path.insert(0, os.path.dirname(os.path.abspath(__file__)))
 
 import gates
 import generate
+import long_outlines
 from gates import INSIDE, ON_OUTLINE, OUTSIDE
 
 passed = failed = 0
@@ -984,6 +985,12 @@ def outlines(seed):
         for x in range(-4, 5):
             for y in range(-4, 5):
                 ellipse([0, 0, *matrix, d2], x, y)
+    # Every number of vertices.
+    for size in range(long_outlines.LEAST, long_outlines.MOST + 1):
+        points = long_outlines.outline(rng, size)
+        check('vertices of a long outline', len(points), size)
+        for _ in range(2):
+            polygon([value for point in points for value in point], *long_outlines.place(rng, points))
     for shape, least in (('polygon', 400), ('ellipse', 300), ('decimals', 100)):
         for said in (OUTSIDE, INSIDE, ON_OUTLINE):
             check('%s, %s was met' % (shape, said), met[shape, said] > least, True)
@@ -1121,9 +1128,44 @@ def outline_bits(words, event):
     return bits
 
 
+def at_outline(vertices, x, y):
+    """What an event meets of a polygon of more than 16 vertices, in words."""
+    points = list(zip(vertices[0::2], vertices[1::2]))
+    edges = list(zip(points, points[1:] + points[:1]))
+    carrying = [at for at, (start, end) in enumerate(edges) if gates.polygon_position([*start, *end], x, y) == ON_OUTLINE]
+    sides = [(height > y) - (height < y) for _, height in points]
+    last = len(points) - 1
+    if last < 16:
+        return
+    if carrying in ([0], [last]):
+        yield 'on the first edge alone' if carrying == [0] else 'on the closing edge alone'
+    elif carrying:
+        yield 'on a vertex' if (x, y) in points else 'on another edge'
+        if carrying[0] >= 64:
+            yield 'on an edge from the 65th on'
+    else:
+        yield 'inside' if winding(vertices, x, y) else 'outside'
+        if 0 in sides:
+            here = [vx for vx, vy in points if vy == y]
+            yield 'left of vertices at its height' if min(here) > x else 'right of vertices at its height' if max(here) < x else 'between vertices at its height'
+    for at in range(last + 1):
+        around = {sides[(at + step) % (last + 1)] for step in (-4, -3, -2, -1, 1, 2, 3, 4)}
+        if sides[at] == 0 and around in ({1}, {-1}):
+            yield 'touched from %s at %s vertex' % ('above' if around == {1} else 'below', 'the first' if at == 0 else 'the last' if at == last else 'another')
+
+
+AT_OUTLINE = {'on the first edge alone': 10, 'on the closing edge alone': 10, 'on another edge': 50, 'on a vertex': 50, 'on an edge from the 65th on': 50,
+              'inside': 50, 'outside': 50, 'left of vertices at its height': 50, 'right of vertices at its height': 50, 'between vertices at its height': 20,
+              **{'touched from %s at %s vertex' % (side, which): least for side in ('above', 'below')
+                 for which, least in (('the first', 2), ('the last', 2), ('another', 50))}}
+
+
 def asked(seed, count):
-    """The questions have kind 7 in plans that pass and in others, and events at which a careless counter would be seen."""
-    met = collections.Counter()
+    """The questions have kind 7 in plans that pass and in others, and events at which a careless counter would be seen.
+
+    They have polygons of every number of vertices, with events at each sort of place.
+    """
+    met, sizes = collections.Counter(), set()
     for number in range(count):
         _, question = generate.request(seed, number)
         if question[0] == 'compile':
@@ -1134,7 +1176,10 @@ def asked(seed, count):
         met['%s, refused with %d' % (question[0], refusal)] += 7 in (words if refusal else [step[0] for step in gates.plan_steps(words)])
         if question[0] == 'judge' and refusal == 0 and len(question[2]) == words[0] and not gates.is_spoilt(question[2]):
             for kind, _, _, body in gates.plan_steps(words):
-                if kind == 7:
+                if kind == 2:
+                    sizes.add(len(body) // 2 - 1)
+                    met.update(at_outline(body[2:], question[2][body[0]], question[2][body[1]]))
+                elif kind == 7:
                     dx, dy = question[2][body[0]] - body[2], question[2][body[1]] - body[3]
                     for otherwise in CARELESS:
                         met[otherwise.__name__] += otherwise(body[4:7], body[7], dx, dy)
@@ -1143,6 +1188,9 @@ def asked(seed, count):
         check('questions with kind 7, %s' % what, met[what] > count // 100, True)
     for what in ('rim_wrong_in_64_bits', 'wrong_in_doubles', 'rim_wrong_in_doubles'):
         check('questions with kind 7, %s' % what, met[what] > 0, True)
+    check('questions with every number of vertices', sizes, set(range(long_outlines.LEAST, long_outlines.MOST + 1)))
+    for what, least in AT_OUTLINE.items():
+        check('questions with long outlines, %s' % what, met[what] >= least * count // 2000, True)
 
 
 def random_plans(seed, count):
