@@ -8,6 +8,8 @@ document's example; what an example has and a table has not (transformed scales,
 19, whose matrix has decimals, stands as it is printed and with all its numbers doubled. Where the document and the requirement differ, in
 outlines that enclose a place twice, the requirement rules, and its own marked cases stand here too.
 
+Outlines of up to 256 vertices stand here too, each begun at several of its vertices or at every one; what they enclose is plain to see.
+
 Outlines are not counted, so those vectors are asked as questions `compile` and `judge` (see tests/compare.py): of the
 program at --plans, where it is given, and of the reference program in any case.
 
@@ -277,6 +279,127 @@ OUTLINE_FAULTS = {
 }
 
 
+# ---------------------------------------------------------------- long outlines
+
+def begun(name, vertices, *starts):
+    """The same outline begun at some of its vertices, or at each: name and vertices."""
+    return [('%s%d' % (name, start), vertices[start:] + vertices[:start]) for start in starts or range(len(vertices))]
+
+
+def backwards(vertices):
+    return vertices[::-1]
+
+
+def mapped(change, outlines):
+    return [(name, [change(x, y) for x, y in vertices]) for name, vertices in outlines]
+
+
+def mapped_events(change, *events):
+    return [', '.join('%d %d' % change(*map(int, event.split())) for event in some.split(',')) for some in events]
+
+
+def hill(steps):
+    """Corners at (2k, 2k(steps - k)), so that the middle of the side from there is (2k + 1, k(steps - k) + (k + 1)(steps - 1 - k)); the ground closes it."""
+    return [(2 * k, 2 * k * (steps - k)) for k in range(steps + 1)]
+
+
+def comb(teeth):
+    """A back from height -10 to 0 and teeth to 20, each 4 wide, so 2 at height 10; the left side of the back closes it."""
+    return [(0, -10), (4 * teeth, -10)] + [point for k in range(teeth, 0, -1) for point in ((4 * k, 0), (4 * k - 2, 20))] + [(0, 0)]
+
+
+# The square from (0, 0) to (128, 128), 64 vertices on each side, and the same with the corners alone.
+SQUARE = ([(x, 0) for x in range(0, 128, 2)] + [(128, y) for y in range(0, 128, 2)]
+          + [(x, 128) for x in range(128, 0, -2)] + [(0, y) for y in range(128, 0, -2)])
+CORNERS = [(0, 0), (128, 0), (128, 128), (0, 128)]
+# A plate from height 10 to 20; from its lower side, of 20 vertices, a tip goes down to (20, 0).
+TIP = ([(x, 10) for x in range(0, 20, 2)] + [(20, 0)] + [(x, 10) for x in range(22, 42, 2)] + [(x, 20) for x in range(40, -2, -2)])
+TIP_EVENTS = ('20 0, 19 5, 21 5, 18 10, 22 10, 17 10, 1 10, 0 10, 40 10, 39 10, 40 15, 0 15, 20 20, 19 20, 0 20, 40 20',
+              '20 1, 20 5, 19 10, 20 10, 21 10, 20 15, 1 15, 39 11, 1 11, 1 19',
+              '19 0, 21 0, -1 0, 41 0, 20 -1, 18 5, 22 5, 0 5, 40 5, -1 10, 41 10, -1 20, 41 20, 20 21, 1 9, 18 9')
+HILL_EVENTS = ('0 0, 32 0, 16 128, 2 30, 30 30, 1 15, 15 127, 17 127, 31 15, 1 0, 16 0, 31 0',
+               '1 14, 1 1, 16 127, 15 126, 16 1, 31 14, 31 1, 16 64, 3 30, 16 30',
+               '1 16, 15 128, 17 128, 16 129, 31 16, -1 0, 33 0, 16 -1, 0 1, 32 1, 0 128, 32 128, 1 30, 31 30')
+COMB_EVENTS = ('0 -10, 160 -10, 80 -10, 160 0, 160 -5, 0 0, 0 -5, 80 0, 2 20, 158 20, 82 20, 1 10, 3 10, 157 10, 159 10, 81 10, 83 10',
+               '2 10, 158 10, 82 10, 2 19, 2 0, 158 0, 82 0, 80 -1, 80 -9, 1 -5, 159 -5, 1 1, 3 1',
+               '4 10, 80 10, 0 10, 160 10, 0 20, 4 20, 160 20, 80 20, -1 0, 161 0, -1 20, 161 20, -1 -10, 161 -10, 80 -11, 2 21, 4 1, 0 1, -1 10, 161 10')
+# A level side of 61 vertices at the upper or the lower end of a plate from (0, 0) to (120, 10).
+LEVEL = [(0, 0), (120, 0)] + [(x, 10) for x in range(120, -2, -2)]
+# From (0, 0) to (256, 0) by steps up and down, 2 high, and back the same way.
+STEPS = [(2 * k, 2 * (k % 2)) for k in range(129)]
+
+
+def star(stride):
+    """The vertices of the square, each joined to the one so many further on: each edge turns by so many 256ths of a whole turn round (64, 64)."""
+    return [SQUARE[stride * k % 256] for k in range(256)]
+
+
+# heading, outlines, then the events that are on all of them, inside all and outside all
+LONG = [
+    ('256 vertices of a square: begun at several, the other way round, walked twice with 128, and 64 times with 4',
+     begun('From', SQUARE, 0, 1, 64, 255) + [('Back', backwards(SQUARE)), ('Twice', SQUARE[::2] * 2), ('Often', CORNERS * 64)],
+     '0 0, 128 0, 128 128, 0 128, 1 0, 2 0, 63 0, 127 0, 128 1, 128 64, 128 127, 127 128, 65 128, 1 128, 0 127, 0 64, 0 2, 0 1',
+     '64 64, 1 1, 127 127, 1 127, 127 1, 2 2, 64 1, 64 127, 1 64, 127 64',
+     '-1 0, 129 0, -1 128, 129 128, 0 -1, 0 129, 64 -1, 64 129, -1 64, 129 64, -1 1, 129 1, -1 127, 129 127'),
+
+    ('256 vertices of a star that goes 127 times round its middle: that is inside, and the outline is next to it',
+     [('Star', star(127)), ('Back', backwards(star(127)))],
+     '65 64, 63 64, 64 65, 64 63, 0 0, 64 0, 66 0, 128 128, 0 2', '64 64', '-1 64, 129 64, 64 -1, 64 129, -1 0, 129 128'),
+
+    ('256 vertices of a star that goes 126 times round its middle, in two rounds of 128: an even number, and inside',
+     [('Star', star(126)), ('Back', backwards(star(126)))],
+     '66 64, 62 64, 64 66, 64 62, 0 0, 64 0, 128 128, 0 4', '64 64', '-1 64, 129 64, 64 -1, 64 129, -1 0, 129 128'),
+
+    ('a comb of 40 teeth, 83 vertices: at the heights of its tips and of the places between them it is met again and again',
+     begun('From', comb(40), 0, 1, 2, 3, 40, 41, 81, 82) + begun('Back', backwards(comb(40)), 0, 1, 82), *COMB_EVENTS),
+
+    ('a lying comb of 40 teeth, 83 vertices: an event has up to 80 edges beside it',
+     mapped(lambda x, y: (y, x), begun('From', comb(40), 0, 1, 2, 3, 40, 41, 81, 82) + begun('Back', backwards(comb(40)), 0, 1, 82)),
+     *mapped_events(lambda x, y: (y, x), *COMB_EVENTS)),
+
+    ('combs of 126 teeth, 255 vertices, and 256 with one on the back',
+     [('Comb', comb(126)), ('Last', comb(126)[1:] + comb(126)[:1]), ('Back', backwards(comb(126))), ('More', comb(126)[:1] + [(252, -10)] + comb(126)[1:])],
+     '1 10, 503 10, 249 10, 251 10, 250 20, 252 0, 0 -5, 504 -5, 252 -10, 1 -10, 0 0, 504 0',
+     '2 10, 502 10, 250 10, 250 19, 250 0, 252 -1, 252 -9',
+     '4 10, 252 10, 500 10, -1 10, 505 10, -1 0, 505 0, -1 20, 505 20, 252 20, 252 -11, 250 21'),
+
+    ('a hill of 17 vertices begun at each of them, so that each of its edges is the closing one', begun('From', hill(16)), *HILL_EVENTS),
+
+    ('a leaning hill of 17 vertices begun at each of them; no edge is level', mapped(lambda x, y: (x, x + y), begun('From', hill(16))),
+     *mapped_events(lambda x, y: (x, x + y), *HILL_EVENTS)),
+
+    ('a hill of 33 vertices begun at each of them', begun('From', hill(32)),
+     '0 0, 64 0, 32 512, 2 62, 62 62, 1 31, 31 511, 33 511, 63 31, 1 0, 32 0, 63 0',
+     '1 30, 1 1, 32 511, 31 510, 32 1, 63 30, 63 1, 32 256, 3 62, 32 62',
+     '1 32, 31 512, 33 512, 32 513, 63 32, -1 0, 65 0, 32 -1, 0 1, 64 1, 1 62, 63 62'),
+
+    ('a hill of 256 vertices with a level top, begun at several of them', begun('From', hill(255), 0, 1, 64, 127, 128, 254, 255),
+     '0 0, 510 0, 254 32512, 255 32512, 256 32512, 2 508, 508 508, 1 254, 509 254, 1 0, 255 0, 509 0',
+     '1 253, 255 32511, 255 1, 509 253, 255 16000, 3 508, 507 508',
+     '1 255, 253 32512, 257 32512, 255 32513, 509 255, -1 0, 511 0, 255 -1, 0 1, 510 1, 1 508, 509 508'),
+
+    ('a tip that touches a height from above, 42 vertices begun at each of them', begun('From', TIP), *TIP_EVENTS),
+
+    ('a tip that touches a height from below, 42 vertices begun at each of them', mapped(lambda x, y: (x, -y), begun('From', TIP)),
+     *mapped_events(lambda x, y: (x, -y), *TIP_EVENTS)),
+
+    ('61 of 63 vertices at one height, begun at several',
+     begun('Top', LEVEL, *range(0, 63, 7), 1, 62) + mapped(lambda x, y: (x, 10 - y), begun('Low', LEVEL, *range(0, 63, 7), 1, 62)),
+     '0 0, 120 0, 60 0, 61 0, 120 5, 120 10, 119 10, 60 10, 61 10, 1 10, 0 10, 0 5', '60 5, 60 9, 61 9, 1 9, 119 1, 1 1, 60 1, 61 1',
+     '-1 10, 121 10, -1 0, 121 0, 60 11, 61 11, 0 11, 60 -1, 61 -1, -1 5, 121 5'),
+
+    ('256 vertices at three places: a triangle whose other edges have no length',
+     begun('From', [(0, 0)] * 86 + [(10, 0)] * 85 + [(0, 10)] * 85, 0, 1, 43, 85, 86, 255),
+     '0 0, 10 0, 0 10, 5 0, 0 5, 5 5, 1 9', '1 1, 3 3, 4 5, 8 1', '6 5, 5 6, 11 0, -1 0, 0 11, 0 -1, -1 10, 1 10, -1 5, 10 1'),
+
+    ('256 vertices of a way and the same way back, which enclose nothing', begun('From', STEPS + STEPS[-2:0:-1], 0, 1, 127, 128, 129, 255),
+     '0 0, 1 1, 2 2, 3 1, 4 0, 127 1, 128 0, 255 1, 256 0, 254 2', '',
+     '2 1, 1 0, 1 2, 0 1, 4 1, 128 1, 128 2, -1 0, 257 0, 256 1, 255 0, 255 2, 256 2, -1 2'),
+
+    ('101 vertices on one line, neither in order nor level', begun('From', [(2 * (37 * k % 101), 37 * k % 101) for k in range(101)], 0, 1, 50, 99, 100),
+     '0 0, 2 1, 100 50, 198 99, 200 100', '', '1 1, 1 0, -2 -1, 202 101, 100 51, 99 50, 101 50, 0 100, 200 0'),
+]
+
 def given(lines):
     return ('\n'.join(lines).replace(' ', '\t') + '\n').encode()
 
@@ -331,6 +454,42 @@ def outlines_told(expect, plans):
                        [outlined(compare.reference_answer, *each) for each in chosen] != plain)
 
 
+def long_events(events):
+    """Each event with what is said of it: on the outlines, inside or outside."""
+    return [([int(value) for value in event.split()], said) for some, said in zip(events, (gates.ON_OUTLINE, gates.INSIDE, gates.OUTSIDE))
+            for event in some.split(',') if event]
+
+
+def long_told(expect, command, plans):
+    """The long outlines: all that are on or inside, and all that are outside, counted; each event judged. Then each fault of a walk is to be seen."""
+    asked = [('the reference', gates.gatecount, lambda questions: [compare.reference_answer(question) for question in questions]),
+             ('the program', lambda data: subprocess.run(command, input=data, stdout=subprocess.PIPE, timeout=60).stdout,
+              plans and (lambda questions: compare.ask(plans, [compare.question_line(question) for question in questions])))]
+    for heading, outlines, *events in LONG:
+        table = ['dims X Y'] + ['poly %s - X Y %s' % (name, ' '.join('%d %d' % vertex for vertex in vertices)) for name, vertices in outlines]
+        everywhere, events = (1 << len(outlines)) - 1, long_events(events)
+        for who, counted, judged in asked:
+            for held in (True, False):
+                some = ['%d %d' % tuple(event) for event, said in events if (said != gates.OUTSIDE) == held]
+                expect('%d events counted by %s, %s' % (len(some), who, heading),
+                       ['%s %d' % (name, held * len(some)) for name, _ in outlines] + ['taken %d' % len(some), 'spoilt 0'],
+                       printed(counted(given(table + ['events'] + some))))
+            if not judged:
+                continue
+            words = compare.compiled_words(judged([('compile', gates.PLAN_WORDS, given(table))])[0]) or []
+            for (event, said), found in zip(events, judged([('judge', words, event) for event, _ in events])):
+                bits, outline = everywhere * (said != gates.OUTSIDE), everywhere * (said == gates.ON_OUTLINE)
+                expect('%s judged by %s, %s' % (event, who, heading), b'0 0 %s %s' % (
+                    compare.written(bits).encode(), compare.written(outline).encode()), found)
+    places = [([value for vertex in vertices for value in vertex], event, said) for _, outlines, *events in LONG
+              for _, vertices in outlines for event, said in long_events(events)]
+    for fault in plants.PLANTS:
+        if fault.startswith('walk-'):
+            with plants.planted(fault):
+                expect('the fault %s is seen by a long outline' % fault, True,
+                       any(gates.polygon_position(vertices, *event) != said for vertices, event, said in places))
+
+
 def main():
     parser = argparse.ArgumentParser(description=__doc__.split('\n')[0])
     parser.add_argument('--gatecount', type=shlex.split, default=['target/bin/gatecount'], metavar='COMMAND')
@@ -359,6 +518,7 @@ def main():
             expect('%s of %s' % (event, heading), sorted(holders.split()), members)
     faults_seen(expect)
     outlines_told(expect, options.plans)
+    long_told(expect, command, options.plans)
     print('%d passed, %d failed' % (passed, failed))
     return failed != 0
 
