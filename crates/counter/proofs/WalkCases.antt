@@ -2,15 +2,21 @@
 use mathlib.Core.Path.{_≡_, refl}
 use mathlib.Core.List.{List, [], _∷_}
 use Prim.Native.Nat.{ℕ}
-use lib.IntN.{ℤ, pos}
+use lib.IntN.{ℤ, pos, negsuc}
 use Rattle.counter.specs.Polygon.{side, between, onEdge, turn, crossing, edgesFrom, edges, onSome, crossings}
 use Rattle.counter.specs.Walk.{over, walked, found}
 use Rattle.counter.specs.declared.Position.the-variants.{Outside, Inside, OnOutline}
 use Rattle.counter.specs.declared.polygon.Walked.{Walked}
 use Rattle.counter.specs.declared.polygon.Walked.the-variants.{Carried, Summed}
 
+abbrev corners : List ℤ
+corners = pos 0 ∷ pos 0 ∷ pos 10 ∷ pos 0 ∷ pos 10 ∷ pos 10 ∷ pos 0 ∷ pos 10 ∷ []
+
 abbrev square : ℕ → ℕ → ℕ → Walked
-square x y k = walked (pos 0 ∷ pos 0 ∷ pos 10 ∷ pos 0 ∷ pos 10 ∷ pos 10 ∷ pos 0 ∷ pos 10 ∷ []) (pos x) (pos y) k
+square x y k = walked corners (pos x) (pos y) k
+
+abbrev left : ℕ → Walked
+left k = walked corners (negsuc 0) (pos 5) k
 
 abbrev spur : ℕ → ℕ → ℕ → Walked
 spur x y k =
@@ -24,6 +30,12 @@ pub walk-cases :
     × (square 5 5 3 ≡ Summed (pos 1))
     × (square 5 5 4 ≡ Summed (pos 1))
     × (found (square 5 5 4) ≡ Inside)
+    -- to the left of it: the first edge takes 1, and the third gives it back
+    × (left 0 ≡ Summed (pos 0))
+    × (left 1 ≡ Summed (negsuc 0))
+    × (left 3 ≡ Summed (pos 0))
+    × (left 4 ≡ Summed (pos 0))
+    × (found (left 4) ≡ Outside)
     -- to the right of it: nothing is added
     × (square 11 5 4 ≡ Summed (pos 0))
     × (found (square 11 5 4) ≡ Outside)
@@ -40,4 +52,4 @@ pub walk-cases :
     × (spur 5 7 7 ≡ Carried)
     × (found (spur 5 7 7) ≡ OnOutline)
 unfolding side between onEdge turn crossing edgesFrom edges onSome crossings over walked
-walk-cases = (refl, refl, refl, refl, refl, refl, refl, refl, refl, refl, refl, refl, refl, refl, refl, refl, refl)
+walk-cases = (refl, refl, refl, refl, refl, refl, refl, refl, refl, refl, refl, refl, refl, refl, refl, refl, refl, refl, refl, refl, refl, refl)

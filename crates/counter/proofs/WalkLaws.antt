@@ -1,10 +1,12 @@
--- The walk over the edges: what it holds after each of them, and at the end. The theorems of request c are `walked-next`, `walked-carried` and `walked-all`.
+-- The walk over the edges: what it holds after each of them, and at the end. Of the definition say so `walked-next`, `walked-carried` and `walked-all`; of the code
+-- the contracts of `walk`, for every end of a stretch, and `long_walk`, and the invariants `Inv-loop` of their proofs.
 use mathlib.Core.Path.{_≡_, refl, sym, ap, ap₂, _∙_}
 use mathlib.Core.Bool.{Bool, true, false, cond, _&&_, _||_, or-assoc, or-false}
 use mathlib.Core.List.{List, [], _∷_, _++_, foldr}
 use Prim.Native.Nat.{ℕ, zero, suc, _+_, _-_, _*_, _/_, _%_, _<_, _≤_}
 use native.Mathlib.Omega.{arith}
 use native.Mathlib.Nat.{add-zero}
+use native.Mathlib.Decide.{decLt}
 use lib.ListN.{length, take, drop, getD, length-take}
 use lib.Seq.{take-suc, take-all, take-add, drop-drop, drop-cons, getD-drop}
 use lib.IntN.{ℤ, pos, _+ℤ_, _-ℤ_, _*ℤ_, +ℤ-idl, +ℤ-idr, +ℤ-assoc}
@@ -16,7 +18,7 @@ use Rattle.counter.specs.Polygon.{Edge, edge, side, between, onEdge, cro
 use Rattle.counter.specs.Positions.{polygonPosition}
 use Rattle.counter.specs.Walk.{over, walked, past, found}
 use Rattle.counter.specs.Inner.Ranges.{OnScale}
-use Rattle.counter.specs.Inner.Walks.{SeenFrom, Near, PastEdge, one, changeFor, vertexBefore, beyond, fourBeyond, Apart}
+use Rattle.counter.specs.Inner.Walks.{SeenFrom, Near, PastEdge, one, oneOf, turnFor, vertexBefore, beyond, fourBeyond, Apart}
 use Rattle.counter.specs.declared.Position.the-variants.{Outside, Inside, OnOutline}
 use Rattle.counter.specs.declared.polygon.Offset.{Offset}
 use Rattle.counter.specs.declared.polygon.Walked.{Walked}
@@ -200,16 +202,15 @@ walked-in v x y k sum e = go (onSome (take k (edges v)) x y) e
         let l = length-take k (edges v) in
         record { abs = rw (← summed q) (omega (arith, c .abs)) }
 
--- ---- a vertex on the scale is near to a point on it
+-- ---- a point on the scale is near to a vertex on it
 pub seen-near : {x y vx vy : ℤ} {offset : Offset} → OnScale x → OnScale y → OnScale vx → OnScale vy → SeenFrom x y vx vy offset → Near offset
 seen-near {x} {y} {vx} {vy} hx hy hvx hvy seen =
     record {
-      right-in = rw (seen .right-is) (difference-in vx x hvx hx);
-      up-in = rw (seen .up-is) (difference-in vy y hvy hy);
-      above-in = rw (seen .above-is) (one-in (ltZ y vy));
+      right-in = rw (seen .right-is) (difference-in x vx hx hvx);
+      up-in = rw (seen .up-is) (difference-in y vy hy hvy);
     }
 
--- ---- one edge, by its ends as they are seen from the point
+-- ---- one edge, by the point as it is seen from its ends
 module _ (a b : Offset) (sum s : ℤ) (side-is : s ≡ a .right *ℤ b .up -ℤ b .right *ℤ a .up) where
   module _ {x y x0 y0 x1 y1 : ℤ} (from : SeenFrom x y x0 y0 a) (to : SeenFrom x y x1 y1 b) where
     s-is : s ≡ side (edge x0 y0 x1 y1) x y
@@ -223,9 +224,9 @@ module _ (a b : Offset) (sum s : ℤ) (side-is : s ≡ a .right *ℤ b .up -ℤ 
     unfolding crossing
     line-adds p = rw (turn-line y0 y1 y (side (edge x0 y0 x1 y1) x y) (sym s-is ∙ eqZ-true s (pos 0) p), +ℤ-idr)
 
-    aside-adds : eqZ s (pos 0) ≡ false → changeFor (a .above) (b .above) s ≡ crossing (edge x0 y0 x1 y1) x y
+    aside-adds : eqZ s (pos 0) ≡ false → turnFor (a .up) (b .up) s ≡ crossing (edge x0 y0 x1 y1) x y
     unfolding crossing
-    aside-adds p = rw (from .above-is, to .above-is, ← s-is) (turn-aside y0 y1 y s p)
+    aside-adds p = rw (from .up-is, to .up-is, ← s-is) (turn-aside y0 y1 y s p)
 
   -- it carries the point
   pub edge-carries : eqZ s (pos 0) ≡ true → between (a .right) (b .right) (pos 0) ≡ true → between (a .up) (b .up) (pos 0) ≡ true → PastEdge a b sum Carried
@@ -236,11 +237,13 @@ module _ (a b : Offset) (sum s : ℤ) (side-is : s ≡ a .right *ℤ b .up -ℤ 
   edge-on-line p q = record { is = λ x y x0 y0 x1 y1 from to. rw (on-is from to, p, q) (ap Summed (line-adds from to p)) }
 
   -- the point is not on its line
-  pub edge-aside : eqZ s (pos 0) ≡ false → PastEdge a b sum (Summed (sum +ℤ changeFor (a .above) (b .above) s))
+  pub edge-aside : eqZ s (pos 0) ≡ false → PastEdge a b sum (Summed (sum +ℤ turnFor (a .up) (b .up) s))
   edge-aside p = record { is = λ x y x0 y0 x1 y1 from to. rw (on-is from to, p) (ap (λ (z : ℤ). Summed (sum +ℤ z)) (aside-adds from to p)) }
 
-pub change-in : {a b : ℤ} → In 1 a → In 1 b → (s : ℤ) → In 2 (changeFor a b s)
-change-in {a} p q s = cond-case (λ (z : ℤ). In 2 z) (eqZ a (one (ltZ s (pos 0)))) _ _ (λ _. in-sub q p) (λ _. in-le tt (in-lit (pos 0)))
+pub turn-for-in : (from to s : ℤ) → In 2 (turnFor from to s)
+turn-for-in from to s =
+    cond-case (λ (z : ℤ). In 2 z) (oneOf (ltZ from (pos 0)) (ltZ to (pos 0))) _ _ (λ _. in-sub (one-in (ltZ to (pos 0))) (one-in (ltZ s (pos 0))))
+    (λ _. in-le tt (in-lit (pos 0)))
 
 -- ---- edges off the height
 past-apart : (e : Edge) (x y : ℤ) → between (e .y0) (e .y1) y ≡ false → (w : Walked) → past e x y w ≡ w
@@ -252,41 +255,43 @@ module _ (v : List ℤ) (whole : length v % 2 ≡ 0) (y : ℤ) where
   abbrev heightBefore : ℕ → ℤ
   heightBefore i = getD v (vertexBefore (length v) i + 1) (pos 0)
 
-  -- past one of them
-  apart-next : (above : Bool) (i k : ℕ) → k ≡ i + 2 → i % 2 ≡ 0 → i < length v → beyond above (heightBefore i) y ≡ true
-      → beyond above (getD v (i + 1) (pos 0)) y ≡ true → (x : ℤ) → (walked v x y (k / 2) ≡ walked v x y (i / 2)) × (beyond above (heightBefore k) y ≡ true)
-  apart-next above i k e even h p q x = (
-    ap (λ (j : ℕ). walked v x y (j / 2)) e ∙ walked-edge v whole x y i even h
-        ∙ past-apart (edgeAt v (vertexBefore (length v) i) i) x y (apart-beyond above _ _ y p q) (walked v x y (i / 2)),
-    ap (λ (j : ℕ). beyond above (getD v (j + 1) (pos 0)) y) (before-next (length v) i k e) ∙ q,
-  )
+  -- none of them
+  pub apart-none : (i : ℕ) → i % 2 ≡ 0 → i ≤ length v → Apart v y i i
+  apart-none i even h = record { from = omega arith; to = h; even = even; same = λ m from to x. (let e : m ≡ i / 2 = omega arith in rw e) }
 
-  -- past four of them
-  apart-four : (above : Bool) (i : ℕ) → i % 2 ≡ 0 → i + 8 ≤ length v → beyond above (heightBefore i) y ≡ true → fourBeyond above v i y ≡ true
-      → (x : ℤ) → (walked v x y ((i + 8) / 2) ≡ walked v x y (i / 2)) × (beyond above (heightBefore (i + 8)) y ≡ true)
+  -- one more
+  apart-next : (above : Bool) (i k : ℕ) → Apart v y i k → k < length v → beyond above (heightBefore k) y ≡ true
+      → beyond above (getD v (k + 1) (pos 0)) y ≡ true → Apart v y i (k + 2) × (beyond above (heightBefore (k + 2)) y ≡ true)
+  apart-next above i k a h p q =
+      let f = a .from in
+      let e = a .even in (
+        record { from = omega arith; to = omega arith; even = omega arith; same = λ m from to x. at m from to x (decLt (k / 2) m) },
+        ap (λ (j : ℕ). beyond above (getD v (j + 1) (pos 0)) y) (before-next (length v) k (k + 2) refl) ∙ q,
+      )
+    where
+      at : (m : ℕ) → i / 2 ≤ m → m ≤ (k + 2) / 2 → (x : ℤ) → Dec (k / 2 < m) → walked v x y m ≡ walked v x y (i / 2)
+      at m from to x (yes l) =
+          let g = a .from in
+          let e = a .even in
+          let s : m ≡ (k + 2) / 2 = omega arith in
+          ap (walked v x y) s ∙ walked-edge v whole x y k e h
+          ∙ past-apart (edgeAt v (vertexBefore (length v) k) k) x y (apart-beyond above _ _ y p q) (walked v x y (k / 2))
+          ∙ a .same (k / 2) (omega arith) (omega arith) x
+      at m from to x (no l) = a .same m from (omega arith) x
+
+  -- four more
+  pub apart-more : (above : Bool) (i k : ℕ) → Apart v y i k → k + 8 ≤ length v → beyond above (heightBefore k) y ≡ true → fourBeyond above v k y ≡ true
+      → Apart v y i (k + 8) × (beyond above (heightBefore (k + 8)) y ≡ true)
   unfolding fourBeyond
-  apart-four above i even room p q x =
+  apart-more above i k a room p q =
       let three = and-both _ _ q in
       let two = and-both _ _ (three .0) in
       let one = and-both _ _ (two .0) in
       let at : (a b : ℕ) → a ≡ b → beyond above (getD v a (pos 0)) y ≡ true → beyond above (getD v b (pos 0)) y ≡ true =
       λ a b e h. ap (λ (j : ℕ). beyond above (getD v j (pos 0)) y) (sym e) ∙ h in
-      let r = apart-next above i (i + 2) refl even (omega arith) p (one .0) x in
-      let s = apart-next above (i + 2) (i + 4) (omega arith) (omega arith) (omega arith) (r .1) (at (i + 3) (i + 2 + 1) (omega arith) (one .1)) x in
-      let t = apart-next above (i + 4) (i + 6) (omega arith) (omega arith) (omega arith) (s .1) (at (i + 5) (i + 4 + 1) (omega arith) (two .1)) x in
-      let u = apart-next above (i + 6) (i + 8) (omega arith) (omega arith) (omega arith) (t .1) (at (i + 7) (i + 6 + 1) (omega arith) (three .1)) x in
-      (u .0 ∙ t .0 ∙ s .0 ∙ r .0, u .1)
-
-  -- none of them
-  pub apart-none : (i : ℕ) → i % 2 ≡ 0 → i ≤ length v → Apart v y i i
-  apart-none i even h = record { from = omega arith; to = h; even = even; same = λ x. refl }
-
-  -- four more
-  pub apart-more : (above : Bool) (i k : ℕ) → Apart v y i k → k + 8 ≤ length v → beyond above (heightBefore k) y ≡ true → fourBeyond above v k y ≡ true
-      → Apart v y i (k + 8) × (beyond above (heightBefore (k + 8)) y ≡ true)
-  apart-more above i k a room p q =
-      let f = a .from in
-      let e = a .even in (
-        record { from = omega arith; to = room; even = omega arith; same = λ x. apart-four above k e room p q x .0 ∙ a .same x },
-        apart-four above k e room p q (pos 0) .1,
-      )
+      let r = apart-next above i k a (omega arith) p (one .0) in
+      let s = apart-next above i (k + 2) (r .0) (omega arith) (r .1) (at (k + 3) (k + 2 + 1) (omega arith) (one .1)) in
+      let t = apart-next above i (k + 2 + 2) (s .0) (omega arith) (s .1) (at (k + 5) (k + 2 + 2 + 1) (omega arith) (two .1)) in
+      let u = apart-next above i (k + 2 + 2 + 2) (t .0) (omega arith) (t .1) (at (k + 7) (k + 2 + 2 + 2 + 1) (omega arith) (three .1)) in
+      let e : k + 2 + 2 + 2 + 2 ≡ k + 8 = omega arith in
+      rw e at u

@@ -15,7 +15,7 @@ use Rattle.counter.specs.declared.polygon.Walked.the-variants.{Carried, 
 unfoldable pub over : List Edge → ℤ → ℤ → Walked
 over es x y = cond (onSome es x y) Carried (Summed (crossings es x y))
 
--- over the first k edges
+-- over the first k edges, the first of which leads from the last vertex to the first
 unfoldable pub walked : List ℤ → ℤ → ℤ → ℕ → Walked
 walked v x y k = over (take k (edges v)) x y
 

@@ -17,14 +17,6 @@ pub record Vertices (v : List ℤ) : Type 0 where
   pub even : length v % 2 ≡ 0
   pub on-scale : (k : ℕ) → OnScale (getD v k (pos 0))
 
-pub record Coordinates (x0 y0 x1 y1 x y : ℤ) : Type 0 where
-  pub x0-on : OnScale x0
-  pub y0-on : OnScale y0
-  pub x1-on : OnScale x1
-  pub y1-on : OnScale y1
-  pub x-on : OnScale x
-  pub y-on : OnScale y
-
 -- an ellipse's fields in their ranges: entries within ±`most`, D² from 1 to `far`
 pub record Fields (most far : ℕ) (m1 m2 c11 c12 c22 d2 : ℤ) : Type 0 where
   pub m1-on : OnScale m1

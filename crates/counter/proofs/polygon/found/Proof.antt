@@ -27,7 +27,7 @@ enum-known-walked : tie.Need-enum-known-walked
 enum-known-walked c = search needs
 
 returns : tie.Need-returns
-returns c = search needs
+returns c = rw (c .enum-told .given .1)
 
 returns-2 : tie.Need-returns-2
 returns-2 c = rw (c .before .before .walked .given .1, sym (test-is (c .before)) ∙ eq-eqb _ _ (c .if1 .taken))

@@ -48,7 +48,7 @@ run-end-requires : tie.Need-run-end-requires Inv-loop μ-loop
 run-end-requires c κs =
     let b = c .before in
     let entry = b .before in
-    simp (toZ-ofZ, entry .fits .y) (entry .pre .0, b .loop .inv .1, c .loop-test .taken, entry .pre .1 .1)
+    (entry .pre .0, b .loop .inv .1, c .loop-test .taken)
 
 -- the edges that are passed by
 passed-by : (c : tie.After-run-end Inv-loop μ-loop) → (let b = c .before .before in Apart (vs b) (py b) (b .loop .i) (c .run-end .result))
@@ -64,7 +64,7 @@ walk-requires c κs =
     simp (toZ-ofZ, entry .fits .x, entry .fits .y) (
       entry .pre .0,
       entry .pre .1,
-      passed-by (c .before) .same (px b) ∙ holds b,
+      passed-by (c .before) .same (c .before .run-end .result / 2) (let f = passed-by (c .before) .from in omega arith) (omega arith) (px b) ∙ holds b,
       c .stretch-end .ensures,
     )
 

@@ -11,8 +11,8 @@ use Rattle.integers.specs.Equality.{eqZ}
 use Rattle.integers.proofs.Bounds.{fit, in-add, ok64}
 use Rattle.integers.proofs.Equality.{eqb-bits}
 use Rattle.counter.specs.Polygon.{between}
-use Rattle.counter.specs.Inner.Walks.{changeFor}
-use Rattle.counter.proofs.WalkLaws.{edge-carries, edge-on-line, edge-aside, change-in}
+use Rattle.counter.specs.Inner.Walks.{turnFor}
+use Rattle.counter.proofs.WalkLaws.{edge-carries, edge-on-line, edge-aside, turn-for-in}
 use borrow.Author.Needs.{needs}
 use Rattle.counter.proofs.polygon.past_edge.Statement.{statement}
 use Rattle.counter.proofs.polygon.past_edge.Tie as tie
@@ -92,13 +92,13 @@ turn-requires c κs = search needs
 -- what `turn` answers, of the side itself
 turn-is : (c : tie.After-turn)
     → (let after-side = c .before .before in
-    let args = after-side .before .args in c .turn .result ≡ changeFor (args .a .above) (args .b .above) (after-side .side .result))
+    let args = after-side .before .args in c .turn .result ≡ turnFor (args .a .up) (args .b .up) (after-side .side .result))
 turn-is c = let s = c .before .before .side in simp (toZ-ofZ, ok64 (s .result) (s .ok)) at (c .turn .ensures)
 
 sum-fits : (c : tie.After-turn) → SFits w64 (c .before .before .before .args .sum +ℤ c .turn .result)
 sum-fits c =
     let entry = c .before .before .before in
-    rw (turn-is c) (fit tt (in-add (entry .pre .2) (change-in (entry .pre .0 .above-in) (entry .pre .1 .above-in) (c .before .before .side .result))))
+    rw (turn-is c) (fit tt (in-add (entry .pre .2) (turn-for-in (entry .args .a .up) (entry .args .b .up) (c .before .before .side .result))))
 
 add-t9 : tie.Need-add-t9
 add-t9 c = simp (toZ-ofZ, c .before .before .before .fits .sum, ok64 (c .turn .result) (c .turn .ok)) (sum-fits c)

@@ -1,8 +1,8 @@
 -- `run_end`: the edges up to the k-th vertex are passed, and the vertex before that one lies on the side of the height that the loop began on.
 use mathlib.Core.Path.{_≡_, sym, _∙_}
-use mathlib.Core.Bool.{Bool, true}
+use mathlib.Core.Bool.{true}
 use mathlib.Core.List.{List}
-use Prim.Native.Nat.{ℕ, _+_, _-_, _<_, _≤_}
+use Prim.Native.Nat.{ℕ, _+_, _-_, _<_}
 use native.Mathlib.Omega.{arith}
 use borrow.Author.Tests.{ne-eqb, not-false}
 use lib.IntN.{ℤ, pos}
@@ -74,7 +74,7 @@ add-loop c = let l = c .loop .inv .0 .to in omega arith
 four-beyond-requires : tie.Need-four-beyond-requires Inv-loop μ-loop
 four-beyond-requires c κs =
     let entry = c .before .before .before .before .before in
-    simp (toZ-ofZ, entry .fits .y) (entry .pre .0, c .loop-test .taken, entry .pre .3)
+    (entry .pre .0, c .loop-test .taken)
 
 returns-2 : tie.Need-returns-2 Inv-loop μ-loop
 returns-2 c =

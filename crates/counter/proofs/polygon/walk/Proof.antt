@@ -1,4 +1,4 @@
--- `walk`: after each edge the sum is what `walked` holds, and the last vertex is seen from the point.
+-- `walk`: after each edge the sum is what `walked` holds, and the point is seen from the last vertex.
 use mathlib.Core.Path.{_≡_, refl, sym, ap, _∙_}
 use mathlib.Core.List.{List}
 use Prim.Native.Nat.{ℕ, _+_, _-_, _/_, _%_, _<_, _≤_}
@@ -18,7 +18,7 @@ use borrow.Author.Needs.{needs}
 use Rattle.counter.proofs.polygon.walk.Statement.{statement}
 use Rattle.counter.proofs.polygon.walk.Tie as tie
 
--- the vertex before the one at i, seen from the point
+-- the point, seen from the vertex before the one at i
 abbrev SeenBefore : List ℤ → ℤ → ℤ → ℕ → Offset → Type 0
 SeenBefore v x y i offset = SeenFrom x y (getD v (vertexBefore (length v) i) (pos 0)) (getD v (vertexBefore (length v) i + 1) (pos 0)) offset
 
@@ -74,7 +74,7 @@ offset-of-requires-2 c κs =
     let entry = at-loop .before .before .before in
     simp (toZ-ofZ, entry .fits .x, entry .fits .y) (entry .pre .0, vertex-there c, entry .pre .1)
 
--- ---- the ends of an edge, seen from the point
+-- ---- the point, seen from the ends of an edge
 module _ (c : tie.After-offset-of2 Inv-loop μ-loop) where
   abbrev at-loop : tie.At-loop Inv-loop μ-loop
   at-loop = c .before .before
