@@ -1,5 +1,5 @@
--- The walk over the edges: what it holds after each of them, and at the end. Of the definition say so `walked-next`, `walked-carried` and `walked-all`; of the code
--- the contracts of `walk`, for every end of a stretch, and `long_walk`, and the invariants `Inv-loop` of their proofs.
+-- The walk over the edges: what it holds after each of them, and at the end. Of the definition this is said by `walked-next`, `walked-carried` and
+-- `walked-all`; of the code by the contracts of `walk`, for every end of a stretch, and `long_walk`, and by the invariants `Inv-loop` of their proofs.
 use mathlib.Core.Path.{_≡_, refl, sym, ap, ap₂, _∙_}
 use mathlib.Core.Bool.{Bool, true, false, cond, _&&_, _||_, or-assoc, or-false}
 use mathlib.Core.List.{List, [], _∷_, _++_, foldr}
