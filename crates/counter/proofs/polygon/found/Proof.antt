@@ -8,6 +8,8 @@ use mir.Val.{SFits, ofZ}
 use mir.Facts.{sfits-lit}
 use Rattle.integers.specs.Equality.{eqZ}
 use Rattle.integers.proofs.Equality.{eqb-bits}
+use Rattle.counter.specs.Walk.{found}
+use Rattle.counter.specs.declared.Position.the-variants.{OnOutline}
 use borrow.Author.Needs.{needs}
 use Rattle.counter.proofs.polygon.found.Statement.{statement}
 use Rattle.counter.proofs.polygon.found.Tie as tie
@@ -27,7 +29,7 @@ enum-known-walked : tie.Need-enum-known-walked
 enum-known-walked c = search needs
 
 returns : tie.Need-returns
-returns c = rw (c .enum-told .given .1)
+returns c = let on : OnOutline ≡ found (c .before .before .args .walked) = rw (c .enum-told .given .1) in on
 
 returns-2 : tie.Need-returns-2
 returns-2 c = rw (c .before .before .walked .given .1, sym (test-is (c .before)) ∙ eq-eqb _ _ (c .if1 .taken))
