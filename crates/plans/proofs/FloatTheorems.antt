@@ -1,6 +1,7 @@
 -- Floats that know less than those of today: a plan of today is refused by them at its lowest new word or passes, and what passes there passes today.
 use mathlib.Core.Path.{_≡_, refl, sym, ap, _∙_}
 use mathlib.Core.Bool.{Bool, true, false, not, cond, _&&_}
+use mathlib.Core.Logic.{inl, inr}
 use mathlib.Core.List.{List}
 use Prim.Native.Nat.{ℕ, zero, suc, _+_, _-_, _<_, _≤_}
 use native.Mathlib.Omega.{arith}
@@ -13,9 +14,9 @@ use Rattle.plans.specs.Bits.{withBit}
 use Rattle.plans.specs.Refusals.{Verdict, passed, refused}
 use Rattle.plans.specs.Kinds.{kindNumber, known, spans}
 use Rattle.plans.specs.Form.{Float, today, first, kindAt, regionAt, lengthAt, bodyAt, nextAt, bodyWord, headWordFor, headWord, stepsWordFor, stepsWord, stepsEnd, width, stepCount, wordGoodFor, wordGood, planEnd, lowestBadFor, formFor, checkFor, checkOf}
-use Rattle.plans.specs.NewWords.{newStepWord, newWord, oldWord, lowestNew, holdsNew}
+use Rattle.plans.specs.NewWords.{newStepWord, newWord, oldWord, lowestNew, holdsNew, NewToFirst}
 use Rattle.plans.specs.declared.Kind.{Kind}
-use Rattle.plans.specs.declared.Kind.the-variants.{Box, Polygon, Ellipse, And, Or, Not, DecimalEllipse, Unknown}
+use Rattle.plans.specs.declared.Kind.the-variants.{Box, Polygon, Ellipse, And, Or, Not, DecimalEllipse, Ellipsoid, Unknown}
 use Rattle.plans.proofs.IndexLaws.{clash, and-both, and-right-false, first-same, first-before, first-at, first-to, first-none, first-is}
 use Rattle.plans.proofs.KindLaws.{spans-both}
 use Rattle.plans.proofs.PlanTheorems.{Form, form→passed, passed→form}
@@ -29,7 +30,7 @@ unfolding spans
 first-less kind e = lt-ltb 0 (kindNumber kind) (let h = spans-both 1 6 (kindNumber kind) e in omega arith)
 
 -- what today knows and a float of the first issue does not
-pub new-to-first : (kind : Kind) → known kind ≡ true → first .knows kind ≡ false → kind ≡ DecimalEllipse
+pub new-to-first : (kind : Kind) → known kind ≡ true → first .knows kind ≡ false → NewToFirst kind
 unfolding spans
 new-to-first Box k e = absurd (clash e)
 new-to-first Polygon k e = absurd (clash e)
@@ -37,8 +38,14 @@ new-to-first Ellipse k e = absurd (clash e)
 new-to-first And k e = absurd (clash e)
 new-to-first Or k e = absurd (clash e)
 new-to-first Not k e = absurd (clash e)
-new-to-first DecimalEllipse k e = refl
+new-to-first DecimalEllipse k e = inl refl
+new-to-first Ellipsoid k e = inr refl
 new-to-first Unknown k e = absurd (clash (sym k))
+
+pub unknown-to-first : (kind : Kind) → NewToFirst kind → first .knows kind ≡ false
+unfolding spans
+unknown-to-first kind (inl e) = rw e refl
+unknown-to-first kind (inr e) = rw e refl
 
 and-true : (x : Bool) → (x && true) ≡ x
 and-true true = refl
@@ -232,6 +239,6 @@ module _ (f : Float) (less : KnowsLess f) where
       new-kind new =
           kind-at-new (lowestNew f p) (lowest-is-new f p new) (passed→form today p ok .1 .words (lowestNew f p) (lowest-inside f p new))
 
--- for a float of the first issue: kind 7
-pub first-at-kind-7 : (p : List ℤ) → checkOf p ≡ passed → holdsNew first p ≡ true → kindAt p (lowestNew first p) ≡ DecimalEllipse
-first-at-kind-7 p ok new = let k = new-kind first first-less p ok new in new-to-first (kindAt p (lowestNew first p)) (k .1) (k .0)
+-- for a float of the first issue: one of the kinds that have come since
+pub first-at-new : (p : List ℤ) → checkOf p ≡ passed → holdsNew first p ≡ true → NewToFirst (kindAt p (lowestNew first p))
+first-at-new p ok new = let k = new-kind first first-less p ok new in new-to-first (kindAt p (lowestNew first p)) (k .1) (k .0)

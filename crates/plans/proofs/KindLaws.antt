@@ -11,11 +11,11 @@ use borrow.Author.Tests.{le-leb, leb-true, ltb-true, eqb-true}
 use Rattle.integers.specs.Range.{inRange}
 use Rattle.integers.proofs.Order.{zarith}
 use Rattle.plans.specs.Words.{word, number, onScale}
-use Rattle.plans.specs.Form.{earlier, dimensionGood, boxWord, polygonWord, entry, matrixWord, ellipseWord, operandWord, bodyWord}
+use Rattle.plans.specs.Form.{earlier, dimensionGood, boxWord, polygonWord, entry, matrixWord, ellipseWord, matrix3Word, ellipsoidWord, operandWord, bodyWord}
 use Rattle.plans.specs.Kinds.{kindOf, kindNumber, known, spans, spansBy, lengthGood}
-use Rattle.plans.specs.Inner.Reader.{isEllipse, mostEntry, mostDistance}
+use Rattle.plans.specs.Inner.Reader.{bodyRun, ellipsoidRun, isEllipse, mostEntry, mostDistance}
 use Rattle.plans.specs.declared.Kind.{Kind}
-use Rattle.plans.specs.declared.Kind.the-variants.{Box, Polygon, Ellipse, And, Or, Not, DecimalEllipse, Unknown}
+use Rattle.plans.specs.declared.Kind.the-variants.{Box, Polygon, Ellipse, And, Or, Not, DecimalEllipse, Ellipsoid, Unknown}
 use Rattle.plans.proofs.IndexLaws.{clash, and-both}
 
 -- ---- a kind's number
@@ -30,6 +30,7 @@ kind-back And = refl
 kind-back Or = refl
 kind-back Not = refl
 kind-back DecimalEllipse = refl
+kind-back Ellipsoid = refl
 kind-back Unknown = refl
 
 -- the number that is asked for, or one of those behind it
@@ -51,7 +52,8 @@ known-number k =
     (or-later k 5 Or _ (omega arith)
     (or-later k 6 Not _ (omega arith)
     (or-later k 7 DecimalEllipse _ (omega arith)
-    (λ w. absurd (clash (sym w)))))))))
+    (or-later k 8 Ellipsoid _ (omega arith)
+    (λ w. absurd (clash (sym w))))))))))
 
 -- ---- the length of a body
 
@@ -75,6 +77,7 @@ length-range And m e = let h = spans-both 2 63 m e in (omega arith, omega arith)
 length-range Or m e = let h = spans-both 2 63 m e in (omega arith, omega arith)
 length-range Not m e = let h = eqb-true m 1 e in (omega arith, omega arith)
 length-range DecimalEllipse m e = let h = eqb-true m 8 e in (omega arith, omega arith)
+length-range Ellipsoid m e = let h = eqb-true m 13 e in (omega arith, omega arith)
 length-range Unknown m e = absurd (clash (sym e))
 
 -- a kind that allows some length is known
@@ -86,6 +89,7 @@ length-known And m e = refl
 length-known Or m e = refl
 length-known Not m e = refl
 length-known DecimalEllipse m e = refl
+length-known Ellipsoid m e = refl
 length-known Unknown m e = e
 
 -- ---- the words of a body
@@ -109,6 +113,10 @@ number-fits (negsuc n) h = absurd (omega arith)
 scale-fits : (w : ℤ) → onScale w ≡ true → Fits w
 unfolding onScale
 scale-fits w e = range-fits (negsuc 65535) (pos 65535) w (omega arith) (omega arith) e
+
+entry-fits : (w : ℤ) → entry (pos 16777216) w ≡ true → Fits w
+unfolding entry
+entry-fits w e = range-fits (negsuc 16777215) (pos 16777216) w (omega arith) (omega arith) e
 
 -- either test of a choice
 pub choose : (b x y : Bool) {P : Type 0} → (b ≡ true → x ≡ true → P) → (b ≡ false → y ≡ true → P) → cond b x y ≡ true → P
@@ -141,6 +149,16 @@ module _ (n k set : ℕ) (narrow : n ≤ 8) (few : k ≤ 64) (body : List ℤ) w
       (λ _. choose (ltb i 7) _ _ (λ _. range-fits (negℤ most) most (word body i) lo hi)
       (λ _. range-fits (pos 1) far (word body i) (omega arith) to))))
 
+  ellipsoid-fits : (i : ℕ) → ellipsoidWord n body i ≡ true → Fits (word body i)
+  unfolding ellipsoidWord matrix3Word entry
+  ellipsoid-fits i =
+      choose (ltb i 3) _ _ (λ _. dimension-fits 1 i i (omega arith))
+      (λ _. choose (ltb i 6) _ _ (λ _. scale-fits (word body i))
+      (λ _. choose (eqb i 6) _ _
+      (λ c e. let q : i ≡ 6 = eqb-true i 6 c in rw q (entry-fits (word body 6) (and-both (entry (pos 16777216) (word body 6)) _ e .0)))
+      (λ _. choose (ltb i 12) _ _ (λ _. entry-fits (word body i))
+      (λ _. range-fits (pos 1) (pos 4096) (word body i) (omega arith) (omega arith)))))
+
   -- a good word fits 32 bits
   pub body-fits : (kind : Kind) (i : ℕ) → bodyWord kind n k set body i ≡ true → Fits (word body i)
   unfolding boxWord polygonWord
@@ -157,6 +175,7 @@ module _ (n k set : ℕ) (narrow : n ≤ 8) (few : k ≤ 64) (body : List ℤ) w
   body-fits Or i = operand-fits i
   body-fits Not i = operand-fits i
   body-fits DecimalEllipse i = ellipse-fits (pos 2000000000) (pos 4096000) (omega arith) (omega arith) (omega arith) i
+  body-fits Ellipsoid i = ellipsoid-fits i
   body-fits Unknown i = λ e. absurd (clash (sym e))
 
 -- ---- the two kinds of ellipse
@@ -177,4 +196,19 @@ ellipse-is n k set body i And e = absurd (clash (sym e))
 ellipse-is n k set body i Or e = absurd (clash (sym e))
 ellipse-is n k set body i Not e = absurd (clash (sym e))
 ellipse-is n k set body i DecimalEllipse e = refl
+ellipse-is n k set body i Ellipsoid e = absurd (clash (sym e))
 ellipse-is n k set body i Unknown e = absurd (clash (sym e))
+
+-- ---- ellipsoids
+
+pub ellipsoid-run-is : (n k set : ℕ) (body : List ℤ) (kind : Kind) → eqb (kindNumber kind) 8 ≡ true → ellipsoidRun n body ≡ bodyRun kind n k set body
+unfolding ellipsoidRun bodyRun
+ellipsoid-run-is n k set body Box e = absurd (clash (sym e))
+ellipsoid-run-is n k set body Polygon e = absurd (clash (sym e))
+ellipsoid-run-is n k set body Ellipse e = absurd (clash (sym e))
+ellipsoid-run-is n k set body And e = absurd (clash (sym e))
+ellipsoid-run-is n k set body Or e = absurd (clash (sym e))
+ellipsoid-run-is n k set body Not e = absurd (clash (sym e))
+ellipsoid-run-is n k set body DecimalEllipse e = absurd (clash (sym e))
+ellipsoid-run-is n k set body Ellipsoid e = refl
+ellipsoid-run-is n k set body Unknown e = absurd (clash (sym e))

@@ -3,7 +3,7 @@ use mathlib.Core.Bool.{Bool, false, _&&_, cond}
 use Prim.Native.Nat.{ℕ, _%_}
 use lib.Dec.{ltb, leb, eqb}
 use Rattle.plans.specs.declared.Kind.{Kind}
-use Rattle.plans.specs.declared.Kind.the-variants.{Box, Polygon, Ellipse, And, Or, Not, DecimalEllipse, Unknown}
+use Rattle.plans.specs.declared.Kind.the-variants.{Box, Polygon, Ellipse, And, Or, Not, DecimalEllipse, Ellipsoid, Unknown}
 
 -- the kind with a number
 unfoldable pub kindOf : ℕ → Kind
@@ -15,7 +15,8 @@ kindOf k =
     (cond (eqb k 5) Or
     (cond (eqb k 6) Not
     (cond (eqb k 7) DecimalEllipse
-    Unknown))))))
+    (cond (eqb k 8) Ellipsoid
+    Unknown)))))))
 
 -- the number of a kind; 0 for none
 abbrev pub kindNumber : Kind → ℕ
@@ -26,6 +27,7 @@ kindNumber And = 4
 kindNumber Or = 5
 kindNumber Not = 6
 kindNumber DecimalEllipse = 7
+kindNumber Ellipsoid = 8
 kindNumber Unknown = 0
 
 abbrev pub known : Kind → Bool
@@ -48,4 +50,5 @@ lengthGood And m = spans 2 63 m
 lengthGood Or m = spans 2 63 m
 lengthGood Not m = eqb m 1
 lengthGood DecimalEllipse m = eqb m 8
+lengthGood Ellipsoid m = eqb m 13
 lengthGood Unknown m = false
