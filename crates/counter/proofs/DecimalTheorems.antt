@@ -1,19 +1,18 @@
 -- Ellipses with decimals: their rule is 01's over the exact values, and over whole numbers it is 01's own.
-use mathlib.Core.Path.{_≡_, sym, ap₂, _∙_}
+use mathlib.Core.Path.{_≡_, ap₂, _∙_}
 use mathlib.Core.Bool.{_&&_}
 use mathlib.Core.List.{[], _∷_}
 use lib.IntN.{ℤ, pos, _+ℤ_, _-ℤ_, _*ℤ_}
-use lib.Signed.{ltZ, _<ℤ_, ltZ-yes}
+use lib.Signed.{ltZ, ltZ-yes}
 use Rattle.integers.specs.Inner.Expressions.{Ex, var, lit, _⊕_, _⊖_, _⊗_}
 use Rattle.integers.proofs.Solver.{solve}
 use Rattle.integers.proofs.Products.{ltZ-mul}
 use Rattle.plans.specs.Form.{matrixGood}
-use Rattle.wide.proofs.OrderLaws.{order-mul}
 use Rattle.counter.specs.Ellipse.{form, determinant}
 use Rattle.counter.specs.Positions.{bySides, ellipsePosition}
 use Rattle.counter.specs.DecimalEllipse.{decimalLeft, decimalRight, decimalEllipsePosition}
 use Rattle.counter.specs.declared.Position.{Position}
-use Rattle.counter.proofs.PositionLaws.{order-sides}
+use Rattle.counter.proofs.PositionLaws.{scaled-sides}
 
 -- ---- exact decimal values, as fractions
 
@@ -53,11 +52,6 @@ bySidesF a b = bySides (a .top *ℤ b .bottom) (b .top *ℤ a .bottom)
 
 abbrev pub positionF : ℤ → ℤ → Fraction → Fraction → Fraction → Fraction → ℤ → ℤ → Position
 positionF m1 m2 c11 c12 c22 d2 x y = bySidesF (formF c11 c12 c22 (whole (x -ℤ m1)) (whole (y -ℤ m2))) (d2 *F determinantF c11 c12 c22)
-
--- ---- positions keep under a factor above 0
-
-scaled-sides : (k l r : ℤ) → pos 0 <ℤ k → bySides (k *ℤ l) (k *ℤ r) ≡ bySides l r
-scaled-sides k l r h = sym (order-sides (k *ℤ l) (k *ℤ r)) ∙ rw (order-mul k l r h) (order-sides l r)
 
 -- ---- the rule
 

@@ -15,20 +15,20 @@ use Rattle.integers.specs.Inner.Bounds.{In}
 use Rattle.integers.specs.Range.{inRange}
 use Rattle.plans.specs.Indices.{all, any}
 use Rattle.plans.specs.Words.{word, number, onScale}
-use Rattle.plans.specs.Form.{dimensionGood, boxWord, polygonWord, entry, matrixWord, ellipseWord, operandWord, bodyWord}
+use Rattle.plans.specs.Form.{dimensionGood, boxWord, polygonWord, entry, matrixWord, ellipseWord, matrix3Word, ellipsoidWord, operandWord, bodyWord}
 use Rattle.plans.specs.Kinds.{lengthGood}
 use Rattle.plans.specs.declared.Kind.{Kind}
 use Rattle.plans.specs.declared.Kind.the-variants as K
 use Rattle.plans.proofs.IndexLaws.{clash, and-both}
 use Rattle.plans.proofs.WordLaws.{word-there}
 use Rattle.plans.proofs.KindLaws.{by-both, length-range, earlier-low}
-use Rattle.counter.specs.Inner.Ranges.{OnScale, Vertices, Fields}
-use Rattle.counter.specs.Members.{valueIn, boxIn, polygonIn, ellipseIn, decimalEllipseIn, operandIn, shapeIn}
+use Rattle.counter.specs.Inner.Ranges.{OnScale, Vertices, Fields, SolidFields}
+use Rattle.counter.specs.Members.{valueIn, boxIn, polygonIn, ellipseIn, decimalEllipseIn, ellipsoidIn, operandIn, shapeIn}
 use Rattle.counter.specs.Positions.{notOutside, isOnOutline}
-use Rattle.counter.specs.Outlines.{polygonOn, ellipseOn, decimalEllipseOn, shapeOn}
-use Rattle.counter.specs.Inner.Steps.{planeOf, ovalOf, stepOf, headOf, positionIn, BoxBody, PlaneWithin, Operands, StepShaped}
+use Rattle.counter.specs.Outlines.{polygonOn, ellipseOn, decimalEllipseOn, ellipsoidOn, shapeOn}
+use Rattle.counter.specs.Inner.Steps.{planeOf, ovalOf, spaceOf, stepOf, headOf, positionIn, BoxBody, PlaneWithin, SpaceWithin, SolidBody, Operands, StepShaped}
 use Rattle.counter.specs.declared.steps.Head.{Head}
-use Rattle.counter.proofs.PositionLaws.{polygon-in, ellipse-in, decimal-in, without-outline-tells}
+use Rattle.counter.proofs.PositionLaws.{polygon-in, ellipse-in, decimal-in, ellipsoid-in, without-outline-tells}
 
 -- ---- ranges
 
@@ -120,6 +120,36 @@ module _ (n k set : ℕ) (body : List ℤ) where
         },
       )
 
+  space-within : dimensionGood n body 1 0 ≡ true → dimensionGood n body 1 1 ≡ true → dimensionGood n body 1 2 ≡ true → SpaceWithin n (spaceOf body)
+  unfolding spaceOf
+  space-within e f g =
+      record { x-within = dimension-below n body 1 0 e; y-within = dimension-below n body 1 1 f; z-within = dimension-below n body 1 2 g }
+
+  ellipsoid-body : eqb (length body) 13 ≡ true → GoodWords K.Ellipsoid n k set body
+      → SpaceWithin n (spaceOf body) × SolidBody body
+  unfolding ellipsoidWord matrix3Word
+  ellipsoid-body e good =
+      let m = eqb-true (length body) 13 e in
+      let at : (i : ℕ) → i < 13 → ellipsoidWord n body i ≡ true = λ i l. good i (omega arith) in (
+        space-within (at 0 (lit< tt)) (at 1 (lit< tt)) (at 2 (lit< tt)),
+        (
+          omega arith,
+          record {
+            m1-on = on-scale (word body 3) (at 3 (lit< tt));
+            m2-on = on-scale (word body 4) (at 4 (lit< tt));
+            m3-on = on-scale (word body 5) (at 5 (lit< tt));
+            c11-in = entry-in 16777216 (word body 6) (and-both (entry (pos 16777216) (word body 6)) _ (at 6 (lit< tt)) .0);
+            c12-in = entry-in 16777216 (word body 7) (at 7 (lit< tt));
+            c13-in = entry-in 16777216 (word body 8) (at 8 (lit< tt));
+            c22-in = entry-in 16777216 (word body 9) (at 9 (lit< tt));
+            c23-in = entry-in 16777216 (word body 10) (at 10 (lit< tt));
+            c33-in = entry-in 16777216 (word body 11) (at 11 (lit< tt));
+            d2-from = range-from (pos 1) (pos 4096) (word body 12) (at 12 (lit< tt));
+            d2-to = range-to (pos 1) (pos 4096) (word body 12) (at 12 (lit< tt));
+          },
+        ),
+      )
+
   operands : 0 < length body → k ≤ 64 → ((i : ℕ) → i < length body → operandWord k set body i ≡ true) → Operands body
   unfolding operandWord
   operands some few good =
@@ -138,13 +168,14 @@ shaped K.And h n k set body few e good = operands n k set body (length-range K.A
 shaped K.Or h n k set body few e good = operands n k set body (length-range K.Or (length body) e .0) few good
 shaped K.Not h n k set body few e good = operands n k set body (length-range K.Not (length body) e .0) few good
 shaped K.DecimalEllipse h n k set body few e good = ellipse-body n k set body 2000000000 4096000 e good
+shaped K.Ellipsoid h n k set body few e good = ellipsoid-body n k set body e good
 shaped K.Unknown h n k set body few e good = tt
 
 -- the position of an event to it says whether the event is in the shape, and whether it is on the shape's outline
 pub position-tells : (kind : Kind) (h : Head) (event : List ℤ) (bits : ℕ) (body : List ℤ)
     → (notOutside (positionIn (stepOf kind h body) event bits body) ≡ shapeIn kind event bits body)
     × (isOnOutline (positionIn (stepOf kind h body) event bits body) ≡ shapeOn kind event body)
-unfolding planeOf ovalOf polygonIn ellipseIn decimalEllipseIn polygonOn ellipseOn decimalEllipseOn valueIn
+unfolding planeOf ovalOf spaceOf polygonIn ellipseIn decimalEllipseIn ellipsoidIn polygonOn ellipseOn decimalEllipseOn ellipsoidOn valueIn
 position-tells K.Box h event bits body = without-outline-tells (boxIn event body)
 position-tells K.Polygon h event bits body = (polygon-in _ _ _, refl)
 position-tells K.Ellipse h event bits body = (ellipse-in _ _ _ _ _ _ _ _, refl)
@@ -152,6 +183,7 @@ position-tells K.And h event bits body = without-outline-tells (all (operandIn b
 position-tells K.Or h event bits body = without-outline-tells (any (operandIn bits body) (length body))
 position-tells K.Not h event bits body = without-outline-tells (not (operandIn bits body 0))
 position-tells K.DecimalEllipse h event bits body = (decimal-in _ _ _ _ _ _ _ _, refl)
+position-tells K.Ellipsoid h event bits body = (ellipsoid-in _ _ _ _ _ _ _ _, refl)
 position-tells K.Unknown h event bits body = (refl, refl)
 
 -- it keeps its header
@@ -163,4 +195,5 @@ head-step K.And h body = refl
 head-step K.Or h body = refl
 head-step K.Not h body = refl
 head-step K.DecimalEllipse h body = refl
+head-step K.Ellipsoid h body = refl
 head-step K.Unknown h body = refl

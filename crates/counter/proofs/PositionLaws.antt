@@ -3,16 +3,19 @@ use mathlib.Core.Path.{_≡_, refl, sym, _∙_}
 use mathlib.Core.Bool.{Bool, true, false, not, cond, _&&_, _||_}
 use mathlib.Core.List.{List}
 use lib.IntN.{ℤ, pos, _-ℤ_, _*ℤ_}
-use lib.Signed.{leZ, ltZ}
+use lib.Signed.{leZ, ltZ, _<ℤ_}
 use Rattle.integers.specs.Equality.{eqZ}
 use Rattle.integers.proofs.Order.{zarith}
 use Rattle.integers.proofs.Equality.{eqZ-true, eqZ-false, true-eqZ, false-eqZ}
+use Rattle.plans.specs.Symmetric.{Symmetric}
 use Rattle.plans.proofs.IndexLaws.{clash}
+use Rattle.wide.proofs.OrderLaws.{order-mul}
 use Rattle.counter.specs.Polygon.{onOutline, winding, inPolygon}
 use Rattle.wide.specs.Inner.Values.{orderOf}
 use Rattle.wide.specs.declared.Order.the-variants.{Less, Equal, Greater}
 use Rattle.counter.specs.Ellipse.{form, determinant, inEllipse}
 use Rattle.counter.specs.DecimalEllipse.{decimalLeft, decimalRight, inDecimalEllipse, decimalEllipsePosition}
+use Rattle.counter.specs.Ellipsoid.{ellipsoidLeft, ellipsoidRight, inEllipsoid, ellipsoidPosition}
 use Rattle.counter.specs.Positions.{notOutside, isOnOutline, polygonPosition, bySides, ellipsePosition}
 use Rattle.counter.specs.Inner.Steps.{positionBy, withoutOutline}
 use Rattle.counter.specs.declared.Position.{Position}
@@ -88,6 +91,10 @@ order-sides l r = go (ltZ l r) (ltZ r l) refl refl
     go false true e f = sides-more l r f
     go false false e f = sides-equal l r e f
 
+-- a factor above 0 keeps the position
+pub scaled-sides : (k l r : ℤ) → pos 0 <ℤ k → bySides (k *ℤ l) (k *ℤ r) ≡ bySides l r
+scaled-sides k l r h = sym (order-sides (k *ℤ l) (k *ℤ r)) ∙ rw (order-mul k l r h) (order-sides l r)
+
 -- ---- ellipse
 
 module _ (m1 m2 c11 c12 c22 d2 x y : ℤ) where
@@ -109,6 +116,17 @@ module _ (m1 m2 c11 c12 c22 d2 x y : ℤ) where
   pub decimal-on : isOnOutline (decimalEllipsePosition m1 m2 c11 c12 c22 d2 x y) ≡ eqZ (decimalLeft m1 m2 c11 c12 c22 x y) (decimalRight c11 c12 c22 d2)
   unfolding decimalEllipsePosition
   decimal-on = sides-on (decimalLeft m1 m2 c11 c12 c22 x y) (decimalRight c11 c12 c22 d2)
+
+-- ---- ellipsoid
+
+module _ (m1 m2 m3 : ℤ) (c : Symmetric) (d2 x y z : ℤ) where
+  pub ellipsoid-in : notOutside (ellipsoidPosition m1 m2 m3 c d2 x y z) ≡ inEllipsoid m1 m2 m3 c d2 x y z
+  unfolding ellipsoidPosition inEllipsoid
+  ellipsoid-in = sides-in (ellipsoidLeft m1 m2 m3 c x y z) (ellipsoidRight c d2)
+
+  pub ellipsoid-on : isOnOutline (ellipsoidPosition m1 m2 m3 c d2 x y z) ≡ eqZ (ellipsoidLeft m1 m2 m3 c x y z) (ellipsoidRight c d2)
+  unfolding ellipsoidPosition
+  ellipsoid-on = sides-on (ellipsoidLeft m1 m2 m3 c x y z) (ellipsoidRight c d2)
 
 -- ---- on the outline is in the shape
 

@@ -5,17 +5,19 @@ use Prim.Native.Nat.{ℕ, zero, suc}
 use lib.IntN.{ℤ}
 use lib.ListN.{drop}
 use Rattle.plans.specs.Words.{word}
+use Rattle.plans.specs.Symmetric.{symmetricFrom}
 use Rattle.plans.specs.Bits.{withBit}
 use Rattle.plans.specs.Form.{kindAt, regionAt, bodyAt, nextAt, stepCount}
 use Rattle.plans.specs.declared.Kind.{Kind}
-use Rattle.plans.specs.declared.Kind.the-variants.{Box, Polygon, Ellipse, And, Or, Not, DecimalEllipse, Unknown}
+use Rattle.plans.specs.declared.Kind.the-variants.{Box, Polygon, Ellipse, And, Or, Not, DecimalEllipse, Ellipsoid, Unknown}
 use Rattle.counter.specs.Positions.{isOnOutline, polygonPosition, ellipsePosition}
 use Rattle.counter.specs.DecimalEllipse.{decimalEllipsePosition}
+use Rattle.counter.specs.Ellipsoid.{ellipsoidPosition}
 use Rattle.counter.specs.Members.{valueIn, stepIn}
 
 -- ---- shapes
 
--- polygon and ellipses: the body's words as in `polygonIn`, `ellipseIn` and `decimalEllipseIn`
+-- polygon, ellipses, ellipsoid: the body's words as in `polygonIn`, `ellipseIn`, `decimalEllipseIn` and `ellipsoidIn`
 unfoldable pub polygonOn : List ℤ → List ℤ → Bool
 polygonOn event body = isOnOutline (polygonPosition (drop 2 body) (valueIn event body 0) (valueIn event body 1))
 
@@ -29,6 +31,11 @@ decimalEllipseOn event body =
     isOnOutline (decimalEllipsePosition (word body 2) (word body 3) (word body 4) (word body 5) (word body 6) (word body 7)
     (valueIn event body 0) (valueIn event body 1))
 
+unfoldable pub ellipsoidOn : List ℤ → List ℤ → Bool
+ellipsoidOn event body =
+    isOnOutline (ellipsoidPosition (word body 3) (word body 4) (word body 5) (symmetricFrom (word body) 6) (word body 12)
+    (valueIn event body 0) (valueIn event body 1) (valueIn event body 2))
+
 -- "Boxes and combinations never set one"
 abbrev pub shapeOn : Kind → List ℤ → List ℤ → Bool
 shapeOn Box event body = false
@@ -38,6 +45,7 @@ shapeOn And event body = false
 shapeOn Or event body = false
 shapeOn Not event body = false
 shapeOn DecimalEllipse event body = decimalEllipseOn event body
+shapeOn Ellipsoid event body = ellipsoidOn event body
 shapeOn Unknown event body = false
 
 -- ---- steps

@@ -1,4 +1,4 @@
--- The ranges of what the shapes' code is handed: values, vertices, an ellipse's fields.
+-- The ranges of what the shapes' code is handed: values, vertices, the fields of an ellipse and of an ellipsoid.
 use mathlib.Core.Path.{_≡_}
 use mathlib.Core.List.{List}
 use Prim.Native.Nat.{ℕ, _≤_, _<_, _%_}
@@ -33,3 +33,17 @@ WholeFields m1 m2 c11 c12 c22 d2 = Fields 16777216 4096 m1 m2 c11 c12 c22 d2
 
 abbrev pub DecimalFields : ℤ → ℤ → ℤ → ℤ → ℤ → ℤ → Type 0
 DecimalFields m1 m2 c11 c12 c22 d2 = Fields 2000000000 4096000 m1 m2 c11 c12 c22 d2
+
+-- of an ellipsoid
+pub record SolidFields (m1 m2 m3 c11 c12 c13 c22 c23 c33 d2 : ℤ) : Type 0 where
+  pub m1-on : OnScale m1
+  pub m2-on : OnScale m2
+  pub m3-on : OnScale m3
+  pub c11-in : In 16777216 c11
+  pub c12-in : In 16777216 c12
+  pub c13-in : In 16777216 c13
+  pub c22-in : In 16777216 c22
+  pub c23-in : In 16777216 c23
+  pub c33-in : In 16777216 c33
+  pub d2-from : pos 1 ≤ℤ d2
+  pub d2-to : d2 ≤ℤ pos 4096

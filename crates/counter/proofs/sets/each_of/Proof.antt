@@ -74,7 +74,7 @@ in-shape-requires c κs =
     let at-event = c .before in
     let pre = entry at-event .pre in
     let l = event-long (n at-event) (group at-event) (e at-event) (lies at-event) in
-    rw (event-is at-event, l) (pre .0 .taken (e at-event) (first at-event .below) (is-asked at-event), pre .1, pre .2)
+    rw (event-is at-event, l) (pre .0 .taken (e at-event) (first at-event .below) (is-asked at-event), pre .1, pre .2, pre .3)
 
 settle-requires : tie.Need-settle-requires Inv-loop μ-loop
 settle-requires c κs = first (c .before .before) .below

@@ -26,6 +26,12 @@ event-decimal-ellipse-position-requires c κs =
     let ellipse = rw (c .before .shape3 .given .1) at (entry .pre .2) in
     (entry .pre .0, ellipse .0, ellipse .2)
 
+event-ellipsoid-position-requires : tie.Need-event-ellipsoid-position-requires
+event-ellipsoid-position-requires c κs =
+    let entry = c .before .before .before in
+    let ellipsoid = rw (c .before .shape4 .given .1) at (entry .pre .2) in
+    (entry .pre .0, ellipsoid .0, ellipsoid .1)
+
 returns-2 : tie.Need-returns-2
 returns-2 c = rw (c .before .before .enum-told2 .given .1) (c .without-outline .ensures ∙ ap withoutOutline (c .before .in-box .ensures))
 
@@ -37,6 +43,9 @@ returns-4 c = rw (c .before .before .shape2 .given .1) (c .event-ellipse-positio
 
 returns-5 : tie.Need-returns-5
 returns-5 c = rw (c .before .before .shape3 .given .1) (c .event-decimal-ellipse-position .ensures)
+
+returns-6 : tie.Need-returns-6
+returns-6 c = rw (c .before .before .shape4 .given .1) (c .event-ellipsoid-position .ensures)
 
 pub shape-position-spec : {M : Type 1} → statement M
 shape-position-spec =
@@ -53,7 +62,10 @@ shape-position-spec =
     (λ c. search needs)
     event-decimal-ellipse-position-requires
     (λ c. search needs)
+    event-ellipsoid-position-requires
+    (λ c. search needs)
     returns-2
     returns-3
     returns-4
-    returns-5)
+    returns-5
+    returns-6)
