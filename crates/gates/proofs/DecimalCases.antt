@@ -19,7 +19,7 @@ use Rattle.gates.specs.Kinds.{carriesPoint, kindNamed, lineKind, stepKin
 use Rattle.gates.specs.Rules.{ellipRule, ruleOf, numberRefusal, decimalRefusal, repeated, dimensionPasses, fieldRefusal, fieldsRefusal}
 use Rattle.gates.specs.Refusal.{kindRefusal, lineRefusal}
 use Rattle.gates.specs.Gate.{decimalEllip}
-use Rattle.gates.specs.Encoding.{planeWord, decimalWord, leafWords}
+use Rattle.gates.specs.Encoding.{axesWord, decimalWord, leafWords}
 
 abbrev head : List (List ℕ)
 head = bytes "A" ∷ bytes "B" ∷ []
@@ -61,5 +61,5 @@ pub decimal-words :
     leafWords (decimalEllip head (ellipse (bytes "-5 6 1134.5 -0.5 30625 0.001")))
     ≡ pos 0 ∷ pos 1 ∷ negsuc 4 ∷ pos 6 ∷ pos 1134500 ∷ negsuc 499 ∷ pos 30625000 ∷ pos 1 ∷ []
 unfolding same fields isNegative unsigned isPositive isNumber numberValue clampTo clamp hasPoint beforePoint afterPoint unsignedThousandths thousandths
-    isWhole isOneToThree isMinusZero isDecimal dimensionOf valueOf thousandthsOf planeWord decimalWord
+    isWhole isOneToThree isMinusZero isDecimal dimensionOf valueOf thousandthsOf axesWord decimalWord
 decimal-words = refl

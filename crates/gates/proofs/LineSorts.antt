@@ -7,15 +7,16 @@ use lib.ListN.{length}
 use Rattle.text.proofs.BoundedLaws.{length-tab}
 use Rattle.plans.specs.Kinds.{spans}
 use Rattle.gates.specs.declared.LineKind.{LineKind}
-use Rattle.gates.specs.declared.LineKind.the-variants.{Rect, Poly, Ellip, DecimalEllip, Quad, And, Or, Not, Unknown}
+use Rattle.gates.specs.declared.LineKind.the-variants.{Rect, Poly, Ellip, DecimalEllip, Ellip3, Quad, And, Or, Not, Unknown}
 use Rattle.gates.specs.Kinds.{stepKind, isQuad}
-use Rattle.gates.specs.Gate.{Leaf, rect, poly, ellip, decimalEllip, leaf, one}
+use Rattle.gates.specs.Gate.{Leaf, rect, poly, ellip, decimalEllip, ellip3, leaf, one}
 use Rattle.gates.specs.Meaning.{bodyOf}
-use Rattle.gates.specs.Encoding.{rectWord, planeWord, decimalWord, leafKind, leafWords}
+use Rattle.gates.specs.Encoding.{rectWord, planeWord, decimalWord, spaceWord, leafKind, leafWords}
 use Rattle.gates.specs.Inner.Regions.{combines}
 use Rattle.gates.proofs.GoodGate.{GoodLeaf}
 use Rattle.gates.proofs.AcceptedLaws.{Accepted}
 use Rattle.gates.proofs.LeafLaws.{rect-good, poly-good, ellip-good, decimal-ellip-good}
+use Rattle.gates.proofs.Ellip3Laws.{ellip3-good}
 
 -- a line that draws one leaf, with a word for each field after the parent
 pub record Drawn (head fs : List (List ℕ)) (kind : LineKind) : Type 0 where
@@ -47,6 +48,7 @@ module _ (head fs : List (List ℕ)) where
   sort-of Ellip = draws (ellip head fs) refl refl refl refl (length-tab (planeWord head fs) (length fs - 3)) (ellip-good head fs)
   sort-of DecimalEllip =
       draws (decimalEllip head fs) refl refl refl refl (length-tab (decimalWord head fs) (length fs - 3)) (decimal-ellip-good head fs)
+  sort-of Ellip3 = draws (ellip3 head fs) refl refl refl refl (length-tab (spaceWord head fs) (length fs - 3)) (ellip3-good head fs)
   sort-of Quad = quad-line
   sort-of And = and-line
   sort-of Or = or-line

@@ -7,11 +7,11 @@ use lib.IntN.{ℤ, pos, negsuc}
 use lib.ListN.{length}
 use Rattle.text.specs.Bounded.{tab}
 use Rattle.plans.specs.declared.Kind.{Kind}
-use Rattle.plans.specs.declared.Kind.the-variants.{Box, Polygon, Ellipse, DecimalEllipse}
+use Rattle.plans.specs.declared.Kind.the-variants.{Box, Polygon, Ellipse, DecimalEllipse, Ellipsoid}
 use Rattle.gates.specs.Kinds.{fieldAt, isStar, dimensionOf, valueOf, thousandthsOf}
 use Rattle.gates.specs.Quads.{dividerCount, dividerField, valueCount, dividerValue, representative}
 use Rattle.gates.specs.Tiling.{interval}
-use Rattle.gates.specs.Gate.{Leaf, rect, poly, ellip, decimalEllip, quadrant}
+use Rattle.gates.specs.Gate.{Leaf, rect, poly, ellip, decimalEllip, ellip3, quadrant}
 
 -- 01: "A missing min is −65,536, a missing max 65,536"
 unfoldable pub minWord : List ℕ → ℤ
@@ -26,9 +26,17 @@ rectWord head fs i =
     let x : List ℕ = fieldAt fs (3 + i) in
     cond (eqb (i % 3) 0) (pos (dimensionOf head x)) (cond (eqb (i % 3) 1) (minWord x) (maxWord x))
 
+-- a shape over so many dimensions: these, then numbers, as the fields stand in the table line
+unfoldable pub axesWord : ℕ → List (List ℕ) → List (List ℕ) → ℕ → ℤ
+axesWord many head fs i = cond (ltb i many) (pos (dimensionOf head (fieldAt fs (3 + i)))) (valueOf (fieldAt fs (3 + i)))
+
 -- polygon: two dimensions, vertices; ellipse: fields as in the table line
-unfoldable pub planeWord : List (List ℕ) → List (List ℕ) → ℕ → ℤ
-planeWord head fs i = cond (ltb i 2) (pos (dimensionOf head (fieldAt fs (3 + i)))) (valueOf (fieldAt fs (3 + i)))
+abbrev pub planeWord : List (List ℕ) → List (List ℕ) → ℕ → ℤ
+planeWord = axesWord 2
+
+-- ellipsoid (02: "with its 13 fields as body")
+abbrev pub spaceWord : List (List ℕ) → List (List ℕ) → ℕ → ℤ
+spaceWord = axesWord 3
 
 -- ellipse with decimals (02: "laid out as kind 3 with those four in thousandths")
 unfoldable pub decimalWord : List (List ℕ) → List (List ℕ) → ℕ → ℤ
@@ -61,6 +69,7 @@ leafKind (rect head fs) = Box
 leafKind (poly head fs) = Polygon
 leafKind (ellip head fs) = Ellipse
 leafKind (decimalEllip head fs) = DecimalEllipse
+leafKind (ellip3 head fs) = Ellipsoid
 leafKind (quadrant head fs q) = Box
 
 abbrev pub leafWords : Leaf → List ℤ
@@ -68,4 +77,5 @@ leafWords (rect head fs) = tab (rectWord head fs) (length fs - 3)
 leafWords (poly head fs) = tab (planeWord head fs) (length fs - 3)
 leafWords (ellip head fs) = tab (planeWord head fs) (length fs - 3)
 leafWords (decimalEllip head fs) = tab (decimalWord head fs) (length fs - 3)
+leafWords (ellip3 head fs) = tab (spaceWord head fs) (length fs - 3)
 leafWords (quadrant head fs q) = tab (quadrantWord head fs q) (3 * dividerCount fs)
