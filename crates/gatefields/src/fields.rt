@@ -71,6 +71,7 @@ fn kind_named(decimals: bool, x: &[u8]) -> LineKind
     let kind = kind_or(x, b"or", LineKind::Or, kind);
     let kind = kind_or(x, b"and", LineKind::And, kind);
     let kind = kind_or(x, b"quad", LineKind::Quad, kind);
+    let kind = kind_or(x, b"ellip3", LineKind::Ellip3, kind);
     let kind = kind_or(x, b"ellip", ellip_kind(decimals), kind);
     let kind = kind_or(x, b"poly", LineKind::Poly, kind);
     kind_or(x, b"rect", LineKind::Rect, kind)
@@ -92,6 +93,7 @@ pub fn step_kind(kind: LineKind) -> Kind
         LineKind::Poly => Kind::Polygon,
         LineKind::Ellip => Kind::Ellipse,
         LineKind::DecimalEllip => Kind::DecimalEllipse,
+        LineKind::Ellip3 => Kind::Ellipsoid,
         LineKind::Quad => Kind::Box,
         LineKind::And => Kind::And,
         LineKind::Or => Kind::Or,
@@ -114,6 +116,7 @@ pub fn is_quad(kind: LineKind) -> bool
         LineKind::Poly => false,
         LineKind::Ellip => false,
         LineKind::DecimalEllip => false,
+        LineKind::Ellip3 => false,
         LineKind::Quad => true,
         LineKind::And => false,
         LineKind::Or => false,

@@ -11,15 +11,17 @@ returns c =
     let poly = c .before .before in
     let ellip = poly .before .before in
     let ellip-told = ellip .before in
-    let quad = ellip-told .before .before in
+    let ellip3 = ellip-told .before .before in
+    let quad = ellip3 .before .before in
     let and = quad .before .before in
     let or = and .before .before in
     let not = or .before .before in
     rw (
-      c .kind-or7 .ensures,
-      poly .kind-or6 .ensures,
-      ellip .kind-or5 .ensures,
+      c .kind-or8 .ensures,
+      poly .kind-or7 .ensures,
+      ellip .kind-or6 .ensures,
       ellip-told .ellip-kind .ensures,
+      ellip3 .kind-or5 .ensures,
       quad .kind-or4 .ensures,
       and .kind-or3 .ensures,
       or .kind-or2 .ensures,
@@ -30,6 +32,8 @@ pub kind-named-spec : {M : Type 1} → statement M
 kind-named-spec =
     tie.close
     (tie.spec
+    (λ c. search needs)
+    (λ c κs. search needs)
     (λ c. search needs)
     (λ c κs. search needs)
     (λ c. search needs)
