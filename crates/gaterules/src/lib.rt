@@ -4,7 +4,7 @@ ghost use Prim.Native.Nat.{_+_, _≤_, min};
 ghost use lib.ListN.{drop};
 ghost use Rattle.text.specs.Lines.{fields};
 ghost use Rattle.gates.specs.Inner.Bounds.{Bound, DecimalBound};
-ghost use Rattle.gates.specs.Rules.{rectRule, polyRule, ellipRule, dividerRule, dividerOf, quadRule, bodyRule, ruleOf, isDimension};
+ghost use Rattle.gates.specs.Rules.{rectRule, polyRule, ellipRule, ellip3Rule, dividerRule, dividerOf, quadRule, bodyRule, ruleOf, isDimension};
 ghost use Rattle.gates.specs.Rules.{dimensionPasses, numberRefusal, decimalRefusal, optionalRefusal, fieldRefusal, fieldsRefusal, unless as unlessOf, repeated as isRepeated, uncrossed as risesOf};
 use decimals::Decimal;
 use decimals::read_decimal;
@@ -67,6 +67,21 @@ fn ellip_rule(entry: Rule, distance: Rule, i: usize) -> Rule
     distance
 }
 
+fn ellip3_rule(i: usize) -> Rule
+    ensures { λ r. ⌜ r ≡ ellip3Rule i ⌝ }
+{
+    if i < 3 {
+        return Rule::Dimension;
+    }
+    if i < 6 {
+        return Rule::Coordinate;
+    }
+    if i < 12 {
+        return Rule::Entry;
+    }
+    Rule::Distance
+}
+
 fn divider_rule(i: usize) -> Rule
     ensures { λ r. ⌜ r ≡ dividerRule i ⌝ }
 {
@@ -123,6 +138,7 @@ fn body_rule(kind: LineKind, line: &[u8], i: usize, k: usize) -> Rule
         LineKind::Poly => poly_rule(i),
         LineKind::Ellip => ellip_rule(Rule::Entry, Rule::Distance, i),
         LineKind::DecimalEllip => ellip_rule(Rule::DecimalEntry, Rule::DecimalDistance, i),
+        LineKind::Ellip3 => ellip3_rule(i),
         LineKind::Quad => quad_rule(line, k),
         LineKind::And => Rule::Operand,
         LineKind::Or => Rule::Operand,
