@@ -2,6 +2,9 @@
 ghost use mathlib.Core.Path.{_≡_};
 ghost use lib.ListN.{drop};
 ghost use Rattle.text.specs.Lines.{fields};
+ghost use Rattle.plans.specs.Symmetric.{symmetricFrom};
+ghost use Rattle.plans.specs.Form.{matrix3Good};
+ghost use Rattle.gates.specs.Kinds.{fieldAt, valueOf};
 ghost use Rattle.gates.specs.Refusal.{shapeGood, becomes as becomesOf, entryOf, matrixPasses, tilingPasses, lineRefusal};
 use crate::tiling::tiles;
 use gatefields::fields::is_quad;
@@ -17,6 +20,7 @@ use gates::LineKind;
 use plans::form::is_length;
 use plans::form::kind_number;
 use plans::matrix::matrix_good;
+use plans::matrix3::matrix3_good;
 use text::lines::field;
 use text::lines::field_count;
 
@@ -47,10 +51,27 @@ fn entry_of(kind: LineKind, x: &[u8]) -> i32
     value_of(x)
 }
 
-// Whether the matrix of an ellipse is good; a line of another kind has none.
+// Whether the matrix of an ellipsoid is good.
+fn matrix3_passes(line: &[u8]) -> bool
+    ensures { λ r. ⌜ r ≡ matrix3Good (symmetricFrom (λ k. valueOf (fieldAt (fields (now (line .entry))) k)) 9) ⌝ }
+{
+    matrix3_good(
+        value_of(field(line, 9)),
+        value_of(field(line, 10)),
+        value_of(field(line, 11)),
+        value_of(field(line, 12)),
+        value_of(field(line, 13)),
+        value_of(field(line, 14)),
+    )
+}
+
+// Whether the matrix of an ellipse or an ellipsoid is good; a line of another kind has none.
 fn matrix_passes(kind: LineKind, line: &[u8]) -> bool
     ensures { λ r. ⌜ r ≡ matrixPasses kind (fields (now (line .entry))) ⌝ }
 {
+    if becomes(8, kind) {
+        return matrix3_passes(line);
+    }
     if becomes(3, kind) | becomes(7, kind) {
         return matrix_good(
             entry_of(kind, field(line, 7)),

@@ -1,4 +1,4 @@
-// The words of a box, a polygon or an ellipse.
+// The words of a box, a polygon, an ellipse or an ellipsoid.
 ghost use mathlib.Core.Path.{_≡_};
 ghost use Prim.Native.Nat.{_+_, _-_, _*_, _<_, _≤_};
 ghost use lib.IntN.{pos};
@@ -6,7 +6,7 @@ ghost use lib.ListN.{length, drop};
 ghost use Rattle.text.specs.Lines.{fields};
 ghost use Rattle.gates.specs.Kinds.{dimensionOf};
 ghost use Rattle.gates.specs.Quads.{dividerCount, quadrantCount};
-ghost use Rattle.gates.specs.Encoding.{minWord, maxWord, rectWord, planeWord, decimalWord, lowerEnd, upperEnd, quadrantMin, quadrantMax, quadrantWord};
+ghost use Rattle.gates.specs.Encoding.{minWord, maxWord, rectWord, axesWord, decimalWord, lowerEnd, upperEnd, quadrantMin, quadrantMax, quadrantWord};
 ghost use Rattle.gates.specs.Inner.Regions.{lineWord};
 use crate::tiling::divider_value;
 use crate::tiling::interval;
@@ -59,12 +59,13 @@ fn rect_word(head: &[u8], line: &[u8], i: usize) -> i32
     max_word(x)
 }
 
-fn plane_word(head: &[u8], line: &[u8], i: usize) -> i32
+// A shape over so many dimensions: these, then numbers.
+fn axes_word(many: usize, head: &[u8], line: &[u8], i: usize) -> i32
     requires { ⌜ (length (drop 1 (fields (now head))) ≤ 8) × (i < length (fields (now line)) - 3) ⌝ }
-    ensures { λ r. ⌜ r ≡ planeWord (drop 1 (fields (now (head .entry)))) (fields (now (line .entry))) i ⌝ }
+    ensures { λ r. ⌜ r ≡ axesWord many (drop 1 (fields (now (head .entry)))) (fields (now (line .entry))) i ⌝ }
 {
     let x = field(line, 3 + i);
-    if i < 2 {
+    if i < many {
         return dimension_word(head, x);
     }
     value_of(x)
@@ -75,7 +76,7 @@ fn decimal_word(head: &[u8], line: &[u8], i: usize) -> i32
     ensures { λ r. ⌜ r ≡ decimalWord (drop 1 (fields (now (head .entry)))) (fields (now (line .entry))) i ⌝ }
 {
     if i < 4 {
-        return plane_word(head, line, i);
+        return axes_word(2, head, line, i);
     }
     thousandths_of(field(line, 3 + i))
 }
@@ -87,9 +88,10 @@ pub fn line_word(head: &[u8], kind: LineKind, line: &[u8], i: usize) -> i32
 {
     match kind {
         LineKind::Rect => rect_word(head, line, i),
-        LineKind::Poly => plane_word(head, line, i),
-        LineKind::Ellip => plane_word(head, line, i),
+        LineKind::Poly => axes_word(2, head, line, i),
+        LineKind::Ellip => axes_word(2, head, line, i),
         LineKind::DecimalEllip => decimal_word(head, line, i),
+        LineKind::Ellip3 => axes_word(3, head, line, i),
         LineKind::Quad => 0,
         LineKind::And => 0,
         LineKind::Or => 0,

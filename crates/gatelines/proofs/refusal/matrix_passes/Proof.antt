@@ -1,4 +1,4 @@
--- `matrix_passes`: only an ellipse, kind 3 or 7, has a matrix.
+-- `matrix_passes`: only an ellipsoid, kind 8, and an ellipse, kind 3 or 7, have a matrix.
 use mir.Syntax.{w32}
 use mir.ValLaws.{toZ-ofZ}
 use mathlib.Core.Path.{refl}
@@ -8,11 +8,17 @@ use Rattle.gatelines.proofs.refusal.matrix_passes.Tie as tie
 
 returns : tie.Need-returns
 returns c =
+    let ellipsoid = c .before in
+    rw (c .matrix3-passes .ensures, ← ellipsoid .before .becomes .ensures, ellipsoid .if1 .taken) refl
+
+returns-2 : tie.Need-returns-2
+returns-2 c =
     let z = c .before in
     let y = z .before .before in
     let x = y .before .before in
-    let at-if1 = x .before .before in
-    let decimal = at-if1 .before in
+    let at-if2 = x .before .before in
+    let decimal = at-if2 .before in
+    let ellipsoid = decimal .before .before in
     rw (
       c .matrix-good .ensures,
       toZ-ofZ w32 _ (record { sfits = x .entry-of .ok }),
@@ -24,15 +30,18 @@ returns c =
       y .before .field2 .ensures,
       x .entry-of .ensures,
       x .before .field .ensures,
-      ← decimal .becomes2 .ensures,
-      ← decimal .before .becomes .ensures,
-      at-if1 .if1 .taken,
+      ← ellipsoid .before .becomes .ensures,
+      ellipsoid .if1 .left,
+      ← decimal .becomes3 .ensures,
+      ← decimal .before .becomes2 .ensures,
+      at-if2 .if2 .taken,
     ) refl
 
-returns-2 : tie.Need-returns-2
-returns-2 c =
+returns-3 : tie.Need-returns-3
+returns-3 c =
     let decimal = c .before in
-    rw (← decimal .becomes2 .ensures, ← decimal .before .becomes .ensures, c .if1 .left)
+    let ellipsoid = decimal .before .before in
+    rw (← ellipsoid .before .becomes .ensures, ellipsoid .if1 .left, ← decimal .becomes3 .ensures, ← decimal .before .becomes2 .ensures, c .if2 .left)
 
 pub matrix-passes-spec : {M : Type 1} → statement M
 matrix-passes-spec =
@@ -40,12 +49,15 @@ matrix-passes-spec =
     (tie.spec
     (λ c κs. search needs)
     (λ c κs. search needs)
-    (λ c κs. search needs)
-    (λ c κs. search needs)
-    (λ c κs. search needs)
-    (λ c κs. search needs)
-    (λ c κs. search needs)
-    (λ c κs. search needs)
-    (λ c κs. search needs)
     returns
-    returns-2)
+    (λ c κs. search needs)
+    (λ c κs. search needs)
+    (λ c κs. search needs)
+    (λ c κs. search needs)
+    (λ c κs. search needs)
+    (λ c κs. search needs)
+    (λ c κs. search needs)
+    (λ c κs. search needs)
+    (λ c κs. search needs)
+    returns-2
+    returns-3)

@@ -15,7 +15,7 @@ unfolding decimalWord
 returns c =
     let i = c .before .before .before .before .args .i in
     let h : i < 4 = omega (arith, c .before .if1 .taken) in
-    rw (lt-ltb i 4 h, toZ-ofZ w32 _ (record { sfits = c .plane-word .ok }), c .plane-word .ensures)
+    rw (lt-ltb i 4 h, toZ-ofZ w32 _ (record { sfits = c .axes-word .ok }), c .axes-word .ensures)
 
 add-field : tie.Need-add-field
 add-field c =

@@ -14,13 +14,13 @@ returns-2 : tie.Need-returns-2
 returns-2 c =
     let told = c .before in
     let entry = told .before .before .before .before in
-    rw (told .enum-told2 .given .1) (word-in-table _ _ (entry .pre .1) (c .plane-word .ok) (c .plane-word .ensures))
+    rw (told .enum-told2 .given .1) (word-in-table _ _ (entry .pre .1) (c .axes-word .ok) (c .axes-word .ensures))
 
 returns-3 : tie.Need-returns-3
 returns-3 c =
     let told = c .before in
     let entry = told .before .before .before .before in
-    rw (told .enum-told3 .given .1) (word-in-table _ _ (entry .pre .1) (c .plane-word2 .ok) (c .plane-word2 .ensures))
+    rw (told .enum-told3 .given .1) (word-in-table _ _ (entry .pre .1) (c .axes-word2 .ok) (c .axes-word2 .ensures))
 
 returns-4 : tie.Need-returns-4
 returns-4 c =
@@ -28,10 +28,18 @@ returns-4 c =
     let entry = told .before .before .before .before in
     rw (told .enum-told4 .given .1) (word-in-table _ _ (entry .pre .1) (c .decimal-word .ok) (c .decimal-word .ensures))
 
+returns-5 : tie.Need-returns-5
+returns-5 c =
+    let told = c .before in
+    let entry = told .before .before .before .before in
+    rw (told .enum-told5 .given .1) (word-in-table _ _ (entry .pre .1) (c .axes-word3 .ok) (c .axes-word3 .ensures))
+
 pub line-word-spec : {M : Type 1} → statement M
 line-word-spec =
     tie.close
     (tie.spec
+    (λ c. search needs)
+    (λ c κs. search needs)
     (λ c. search needs)
     (λ c κs. search needs)
     (λ c. search needs)
@@ -49,6 +57,7 @@ line-word-spec =
     returns-2
     returns-3
     returns-4
+    returns-5
     (λ c. cc)
     (λ c. cc)
     (λ c. cc)
