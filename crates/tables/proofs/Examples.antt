@@ -1,5 +1,5 @@
 -- The marked cases of 01, as one theorem over a list of them about the definitions: those of the worked example from its bytes, then those of shapes,
--- matrices and the plan by itself (counter, proofs/MarkedCases). Outlines and ellipses with decimals, of 02's first two requests, are two more lists.
+-- matrices and the plan by itself (counter, proofs/MarkedCases). Outlines, ellipses with decimals and ellipsoids, of 02's requests, are further lists.
 use mathlib.Core.Path.{refl}
 use mathlib.Core.Bool.{Bool, true, false, _&&_, cond}
 use mathlib.Core.List.{List, [], _∷_, _++_, map}
@@ -22,6 +22,8 @@ use Rattle.integers.specs.Range as Range
 use Rattle.plans.specs.Words as Words
 use Rattle.counter.specs.Ellipse as Ellipse
 use Rattle.counter.specs.DecimalEllipse as DecimalEllipse
+use Rattle.counter.specs.Ellipsoid as Ellipsoid
+use Rattle.counter.proofs.EllipsoidCases.{tiltedPlan}
 use Rattle.counter.specs.Judging as Judging
 use Rattle.counter.specs.Members as Placing
 use Rattle.counter.specs.Counting as Counting
@@ -137,19 +139,48 @@ tableDecimalCases =
     ∷ is (inTurned (pos 71) (pos 70)) false
     ∷ []
 
-table-cases : Hold tableCases × Hold tableOutlineCases × Hold tableDecimalCases
-unfolding tableCases tableOutlineCases tableDecimalCases sameWords answer inGate onGate example exampleEvents decimalExample decimalAnswer inTurned onTurned
+-- the ellipsoid that EllipsoidCases of counter works by hand, from its line
+ellipsoidExample : List ℕ
+ellipsoidExample = unlines (tabbed (bytes "dims FSC SSC RED") ∷ tabbed (bytes "ellip3 Tilted - FSC SSC RED 100 200 300 7 2 1 5 -1 3 7") ∷ [])
+
+ellipsoidAnswer : TableCounting
+ellipsoidAnswer =
+    countTableOf ellipsoidExample (replicate 64 (pos 0))
+    (pos 107 ∷ pos 202 ∷ pos 301 ∷ pos 106 ∷ pos 202 ∷ pos 301 ∷ pos 107 ∷ pos 202 ∷ pos 300 ∷ pos 93 ∷ pos 198 ∷ pos 299 ∷ [])
+
+inTilted : ℤ → ℤ → ℤ → Bool
+inTilted x y z = member (gates ellipsoidExample) (x ∷ y ∷ z ∷ []) (bytes "Tilted")
+
+onTilted : ℤ → ℤ → ℤ → Bool
+onTilted x y z = outlineMember (gates ellipsoidExample) (x ∷ y ∷ z ∷ []) (bytes "Tilted")
+
+pub tableEllipsoidCases : List Case
+tableEllipsoidCases =
+    is (sameWords (lent (ellipsoidAnswer .words) (ellipsoidAnswer .slice)) tiltedPlan) true
+    ∷ is (same (take 2 (ellipsoidAnswer .tally .counts)) (3 ∷ 0 ∷ [])) true
+    ∷ is (eqb (ellipsoidAnswer .tally .taken) 4) true
+    ∷ is (inTilted (pos 107) (pos 202) (pos 301)) true
+    ∷ is (onTilted (pos 107) (pos 202) (pos 301)) true
+    ∷ is (inTilted (pos 106) (pos 202) (pos 301)) true
+    ∷ is (onTilted (pos 106) (pos 202) (pos 301)) false
+    ∷ is (inTilted (pos 107) (pos 202) (pos 300)) false
+    ∷ []
+
+table-cases : Hold tableCases × Hold tableOutlineCases × Hold tableDecimalCases × Hold tableEllipsoidCases
+unfolding tableCases tableOutlineCases tableDecimalCases tableEllipsoidCases ellipsoidExample ellipsoidAnswer inTilted onTilted
+    sameWords answer inGate onGate example exampleEvents decimalExample decimalAnswer inTurned onTurned
     Decimals.beforePoint Decimals.afterPoint Decimals.unsignedThousandths Decimals.thousandths Decimals.isWhole Decimals.isOneToThree Decimals.isMinusZero
     Decimals.isDecimal Kinds.thousandthsOf Rules.decimalRefusal Encoding.decimalWord Meaning.inDecimalEllip LineOutlines.onDecimalEllip
     DecimalEllipse.inDecimalEllipse DecimalEllipse.decimalEllipsePosition Placing.decimalEllipseIn
+    Meaning.inEllip3 LineOutlines.onEllip3 Rules.ellip3Rule Ellipsoid.inEllipsoid Ellipsoid.ellipsoidPosition Placing.ellipsoidIn
     Bits.hasBit Bits.withBit Form.spans Form.spansBy
-    Form.matrixGood Indices.all Indices.any
+    Form.matrix3Good Form.matrix3Word Form.ellipsoidWord Form.matrixGood Indices.all Indices.any
     Indices.howMany Indices.firstBad Words.word Range.inRange Words.onScale Ellipse.inEllipse Judging.valueGood Judging.taken Polygon.side Polygon.between
     Polygon.onEdge Polygon.turn Polygon.crossing Polygon.edgesFrom Polygon.edges Polygon.onSome Polygon.crossings Polygon.inPolygon Bytes.same Lines.fields
     Lines.lines Lines.endsInLF Names.isName Numbers.isNegative Numbers.unsigned Numbers.isPositive Numbers.isNumber Numbers.numberValue Numbers.clampTo
     Numbers.clamp Output.over Decimals.hasPoint Kinds.carriesPoint Kinds.kindNamed Kinds.isStar Kinds.isNone Kinds.isParent Kinds.isComplement
     Kinds.operandName Kinds.isOperand Kinds.dimensionOf Kinds.valueOf
-    Meaning.inPoly Meaning.inEllip Encoding.minWord Encoding.maxWord Encoding.rectWord Encoding.planeWord Encoding.lowerEnd Encoding.upperEnd
+    Meaning.inPoly Meaning.inEllip Encoding.minWord Encoding.maxWord Encoding.rectWord Encoding.axesWord Encoding.lowerEnd Encoding.upperEnd
     Encoding.quadrantMin Encoding.quadrantMax Encoding.quadrantWord Meaning.parentOf Meaning.gateOf Quads.countDigit Quads.dividerAt Quads.dividerValue
     Quads.quadrantCount Quads.quadrantAt Quads.layoutGood Refusal.kindRefusal Refusal.lineRefusal Rules.rectRule Rules.ellipRule Rules.dividerRule
     Rules.dividerOf Rules.quadRule Rules.ruleOf Rules.numberRefusal Rules.optionalRefusal Rules.uncrossed Rules.repeated Rules.dimensionPasses
@@ -169,6 +200,7 @@ table-cases = (
   (refl, (refl, (refl, (refl, (refl, (refl, (refl, tt))))))),
   (refl, (refl, (refl, (refl, (refl, (refl, (refl, (refl, (refl, tt))))))))),
   (refl, (refl, (refl, (refl, (refl, (refl, (refl, (refl, tt)))))))),
+  (refl, (refl, (refl, (refl, (refl, (refl, (refl, (refl, tt)))))))),
 )
 
 pub marked-cases : Hold (tableCases ++ markedCases)
@@ -179,3 +211,6 @@ outline-cases = hold-both tableOutlineCases outlineCases (table-cases .1) positi
 
 pub decimal-cases : Hold (tableDecimalCases ++ decimalCases)
 decimal-cases = hold-both tableDecimalCases decimalCases (table-cases .2) turned-cases
+
+pub ellipsoid-cases : Hold tableEllipsoidCases
+ellipsoid-cases = table-cases .3

@@ -14,11 +14,10 @@ use Rattle.plans.specs.Refusals.{passed, refused}
 use Rattle.plans.specs.Words.{word, number}
 use Rattle.plans.specs.Form.{Float, first, kindAt, stepCount, checkFor, checkOf}
 use Rattle.plans.specs.Kinds.{spans}
-use Rattle.plans.specs.NewWords.{newStepWord, newWord, oldWord, lowestNew, holdsNew}
-use Rattle.plans.specs.declared.Kind.the-variants.{DecimalEllipse}
+use Rattle.plans.specs.NewWords.{newStepWord, newWord, oldWord, lowestNew, holdsNew, NewToFirst}
 use Rattle.plans.proofs.BitLaws.{no-bit}
 use Rattle.plans.proofs.IndexLaws.{clash, and-right-false, first-none}
-use Rattle.plans.proofs.FloatTheorems.{KnowsLess, first-less, lowest-is-new, nothing-before, holds-some, new-refused, old-passes, first-at-kind-7}
+use Rattle.plans.proofs.FloatTheorems.{KnowsLess, first-less, lowest-is-new, nothing-before, holds-some, new-refused, old-passes, first-at-new, unknown-to-first}
 use Rattle.counter.specs.Counting.{noTally, countFor, countOf}
 use Rattle.counter.proofs.FloatTheorems.{counts-as-today, new-uncounted, old-counted}
 use Rattle.gates.specs.Gate.{Region, regions}
@@ -201,15 +200,14 @@ module _ (text : List ℕ) (slice : List ℤ) where
   made-plan : made .verdict ≡ passed → lent (made .words) (made .slice) ≡ planOf text
   made-plan ok = let v = verdict-is ok in compiled-plan text slice v (passed-accepted (length slice) text v .slice-fits)
 
-  of-plan : made .verdict ≡ passed → (r : Region) → r ∈ regions (gates text) → shapeKind (r .shape) ≡ DecimalEllipse
-      → (place : ℕ) × RefusedAsNew first (planOf text) place × (kindAt (planOf text) place ≡ DecimalEllipse)
-  unfolding spans
+  of-plan : made .verdict ≡ passed → (r : Region) → r ∈ regions (gates text) → NewToFirst (shapeKind (r .shape))
+      → (place : ℕ) × RefusedAsNew first (planOf text) place × NewToFirst (kindAt (planOf text) place)
   of-plan ok r m e =
       let v = verdict-is ok in
-      let new = table-new first first-less (length slice) text v r m (rw e refl) in (
+      let new = table-new first first-less (length slice) text v r m (unknown-to-first (shapeKind (r .shape)) e) in (
         lowestNew first (planOf text),
         new-table-refused first first-less (length slice) text v new,
-        first-at-kind-7 (planOf text) (plan-ok first first-less (length slice) text v) new,
+        first-at-new (planOf text) (plan-ok first first-less (length slice) text v) new,
       )
 
   pub first-refuses : FirstFloatRefuses text made

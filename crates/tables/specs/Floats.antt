@@ -6,8 +6,7 @@ use Prim.Native.Nat.{ℕ, _<_}
 use lib.IntN.{ℤ}
 use Rattle.plans.specs.Refusals.{passed, refused}
 use Rattle.plans.specs.Form.{Float, first, kindAt, checkFor}
-use Rattle.plans.specs.NewWords.{newWord}
-use Rattle.plans.specs.declared.Kind.the-variants.{DecimalEllipse}
+use Rattle.plans.specs.NewWords.{newWord, NewToFirst}
 use Rattle.counter.specs.Counting.{noTally, countFor}
 use Rattle.gates.specs.Gate.{Region, regions}
 use Rattle.tables.specs.Table.{_∈_}
@@ -27,9 +26,9 @@ pub record RefusedAsNew (f : Float) (p : List ℤ) (place : ℕ) : Type 0 where
   pub refuses : checkFor f p ≡ refused 22 place
   pub never-counts : (values : List ℤ) → countFor f p values ≡ record { verdict = refused 22 place; tally = noTally }
 
--- the claim, of what compiling a table gave: where it was not refused and the table has an ellipse with decimals, the words reported are refused so by a float
--- of the first issue, at the word of a kind 7
+-- the claim, of what compiling a table gave: where it was not refused and the table has an ellipse with decimals or an ellipsoid, the words reported are
+-- refused so by a float of the first issue, at the word of such a kind
 abbrev pub FirstFloatRefuses : List ℕ → Compiling → Type 0
 FirstFloatRefuses text c =
-    c .verdict ≡ passed → (r : Region) → r ∈ regions (gates text) → shapeKind (r .shape) ≡ DecimalEllipse
-    → (place : ℕ) × RefusedAsNew first (lent (c .words) (c .slice)) place × (kindAt (lent (c .words) (c .slice)) place ≡ DecimalEllipse)
+    c .verdict ≡ passed → (r : Region) → r ∈ regions (gates text) → NewToFirst (shapeKind (r .shape))
+    → (place : ℕ) × RefusedAsNew first (lent (c .words) (c .slice)) place × NewToFirst (kindAt (lent (c .words) (c .slice)) place)
