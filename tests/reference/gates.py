@@ -29,7 +29,7 @@ REGIONS = 64
 
 LOWEST, HIGHEST = -65536, 65535         # the values of an event taken
 NO_MIN, NO_MAX = -65536, 65536          # the words for a missing bound
-ENTRY = 16777216                        # c11, c12, c22 lie within plus and minus this
+ENTRY = 16777216                        # the entries of a matrix lie within plus and minus this
 WIDEST = 4096                           # the greatest D2
 
 # 01, "Table lines": the ranges by the role of a field.
@@ -44,13 +44,16 @@ D2_RANGE = (1, WIDEST)
 DECIMAL_ENTRY_RANGE = (-2000000000, 2000000000)
 DECIMAL_D2_RANGE = (1, 4096000)
 
-KINDS = (b'rect', b'poly', b'ellip', b'quad', b'and', b'or', b'not')
-BOX, POLYGON, ELLIPSE, AND, OR, NOT, DECIMAL_ELLIPSE = 1, 2, 3, 4, 5, 6, 7
-STEP_KINDS = (BOX, POLYGON, ELLIPSE, AND, OR, NOT, DECIMAL_ELLIPSE)
+# 02 d: three means, c11, c12, c13, c22, c23, c33 and D2, behind the three dimensions of an `ellip3` line and of a body of kind 8.
+ELLIPSOID_RANGES = (POINT_RANGE,) * 3 + (ENTRY_RANGE,) * 6 + (D2_RANGE,)
+
+KINDS = (b'rect', b'poly', b'ellip', b'quad', b'and', b'or', b'not', b'ellip3')
+BOX, POLYGON, ELLIPSE, AND, OR, NOT, DECIMAL_ELLIPSE, ELLIPSOID = 1, 2, 3, 4, 5, 6, 7, 8
+STEP_KINDS = (BOX, POLYGON, ELLIPSE, AND, OR, NOT, DECIMAL_ELLIPSE, ELLIPSOID)
 ELLIPSES = (ELLIPSE, DECIMAL_ELLIPSE)
 COMBINATIONS = (AND, OR, NOT)
 
-# 02 a: what the polygon test and the ellipse test answer.
+# 02 a: what the tests of polygons, ellipses and ellipsoids answer.
 OUTSIDE, INSIDE, ON_OUTLINE = 'outside', 'inside', 'on the outline'
 
 NAME = re.compile(rb'[A-Za-z][A-Za-z0-9_-]{0,15}')
@@ -136,6 +139,7 @@ class Gate:
         self.bounds = []        # rect: (dimension, min, max)
         self.vertices = []      # poly: x, y, x, y, ..
         self.ellipse = []       # ellip: the two means, c11, c12, c22, D2
+        self.ellipsoid = []     # ellip3: the three means, c11, c12, c13, c22, c23, c33, D2
         self.dividers = []      # quad: (dimension, [values])
         self.quadrants = []     # quad: (name, [representative or `*` per divider])
         self.operands = []      # and, or, not
@@ -196,6 +200,13 @@ def read_gate(fields):
             gate.decimals = list(zip(others, [DECIMAL_ENTRY_RANGE] * 3 + [DECIMAL_D2_RANGE]))
         else:
             gate.numbers += [(field, limits, False) for field, limits in zip(others, [ENTRY_RANGE] * 3 + [D2_RANGE])]
+
+    elif kind == b'ellip3':
+        if len(rest) != 13:
+            return None
+        gate.dimensions = rest[:3]
+        gate.ellipsoid = rest[3:]
+        gate.numbers = [(field, limits, False) for field, limits in zip(gate.ellipsoid, ELLIPSOID_RANGES)]
 
     elif kind == b'quad':
         if not rest:
@@ -282,7 +293,41 @@ def ellipse_numbers(gate):
     return [value(field) for field in gate.ellipse]
 
 
+def symmetric(c11, c12, c13, c22, c23, c33):
+    """The rows of the matrix of an ellipsoid."""
+    return [[c11, c12, c13], [c12, c22, c23], [c13, c23, c33]]
+
+
+def without(rows, row, column):
+    """A matrix without one of its rows and one of its columns."""
+    return [[entry for there, entry in enumerate(entries) if there != column] for at, entries in enumerate(rows) if at != row]
+
+
+def cofactor(rows, row, column):
+    return (-1) ** (row + column) * determinant(without(rows, row, column))
+
+
+def determinant(rows):
+    """Developed along the first row; that of a matrix without rows is 1."""
+    if not rows:
+        return 1
+    return sum(entry * cofactor(rows, 0, column) for column, entry in enumerate(rows[0]))
+
+
+def ellipsoid_matrix_is_good(rows):
+    """c11, the upper left 2 by 2 determinant and the whole determinant are above 0."""
+    return all(determinant([entries[:size] for entries in rows[:size]]) > 0 for size in (1, 2, 3))
+
+
+def ellipsoid_numbers(gate):
+    """The means, the rows of the matrix, and D2 of an `ellip3` line whose ranges are good."""
+    numbers = [number_value(field) for field in gate.ellipsoid]
+    return numbers[:3], symmetric(*numbers[3:9]), numbers[9]
+
+
 def matrix_good(gate, head):
+    if gate.kind == b'ellip3':
+        return ellipsoid_matrix_is_good(ellipsoid_numbers(gate)[1])
     return gate.kind != b'ellip' or matrix_is_good(*ellipse_numbers(gate)[2:5])
 
 
@@ -459,6 +504,10 @@ def region_steps(head, gates):
             body = [head.index(dimension) for dimension in gate.dimensions]
             body += [number_value(field) for field, _, _ in gate.numbers]
             body += [thousandths(field) for field, _ in gate.decimals]
+        elif gate.kind == b'ellip3':
+            kind = ELLIPSOID
+            body = [head.index(dimension) for dimension in gate.dimensions]
+            body += [number_value(field) for field in gate.ellipsoid]
         else:
             kind = {b'and': AND, b'or': OR, b'not': NOT}[gate.kind]
             body = [2 * numbers[operand_name(operand)] + (operand[:1] == b'!')
@@ -504,7 +553,8 @@ def compile_table(table, slice_words):
 
 # ---------------------------------------------------------------- checking a plan
 
-MATRIX_AT = 4       # where in an ellipse's body a bad matrix is placed: c11
+MATRIX_AT = 4               # where in an ellipse's body a bad matrix is placed: c11
+ELLIPSOID_MATRIX_AT = 6     # and where in an ellipsoid's
 
 
 def length_good(kind, length):
@@ -514,6 +564,8 @@ def length_good(kind, length):
         return 8 <= length <= 514 and length % 2 == 0
     if kind in ELLIPSES:
         return length == 8
+    if kind == ELLIPSOID:
+        return length == 13
     if kind == NOT:
         return length == 1
     return 2 <= length <= 63
@@ -538,8 +590,10 @@ def body_word_good(kind, body, at, n, earlier):
         return within(word, MAX_RANGE) and body[at - 1] < word
     if kind in COMBINATIONS:
         return word >= 0 and word // 2 in earlier
-    if at < 2:
+    if at < (3 if kind == ELLIPSOID else 2):
         return 0 <= word < n and word not in body[:at]
+    if kind == ELLIPSOID:
+        return within(word, ELLIPSOID_RANGES[at - 3])
     return within(word, POINT_RANGE if kind == POLYGON else ellipse_range(kind, at))
 
 
@@ -555,6 +609,9 @@ def bad_body_word(kind, body, length, n, earlier):
         # c22 is the last word of the matrix; all three are there and in range now.
         if kind in ELLIPSES and at == 6 and not matrix_is_good(*body[4:7]):
             return MATRIX_AT
+        # c33 is the last of the six.
+        if kind == ELLIPSOID and at == 11 and not ellipsoid_matrix_is_good(symmetric(*body[6:12])):
+            return ELLIPSOID_MATRIX_AT
     return None
 
 
@@ -664,6 +721,47 @@ def decimal_ellipse_holds(mean_x, mean_y, c11, c12, c22, d2, x, y):
     return decimal_ellipse_position(mean_x, mean_y, c11, c12, c22, d2, x, y) != OUTSIDE
 
 
+def ellipsoid_position(means, rows, d2, point):
+    """000's rule multiplied by the determinant: the matrix of the cofactors stands for the inverse."""
+    from_means = [value - mean for value, mean in zip(point, means)]
+    left = sum(one * cofactor(rows, row, column) * other
+               for row, one in enumerate(from_means) for column, other in enumerate(from_means))
+    right = d2 * determinant(rows)
+    if left == right:
+        return ON_OUTLINE
+    return INSIDE if left < right else OUTSIDE
+
+
+def ellipsoid_holds(means, rows, d2, point):
+    return ellipsoid_position(means, rows, d2, point) != OUTSIDE
+
+
+def ellipsoid_of(body, event):
+    """Means, matrix, D2 and the event's three values, by a body of kind 8."""
+    return body[3:6], symmetric(*body[6:12]), body[12], [event[dimension] for dimension in body[:3]]
+
+
+def solved(rows, values):
+    """The fractions that the rows of a good matrix take to these values."""
+    lines = [[Fraction(entry) for entry in entries] + [Fraction(value)] for entries, value in zip(rows, values)]
+    for at in range(len(lines)):
+        # The leading determinants are above 0, and so is what is divided by.
+        lines[at] = [entry / lines[at][at] for entry in lines[at]]
+        for other in range(len(lines)):
+            if other != at:
+                lines[other] = [entry - lines[other][at] * first for entry, first in zip(lines[other], lines[at])]
+    return [line[-1] for line in lines]
+
+
+def ellipsoid_position_by_000(means, rows, d2, point):
+    """The rule as 000 has it, with the inverse of the matrix."""
+    from_means = [value - mean for value, mean in zip(point, means)]
+    distance = sum(one * other for one, other in zip(from_means, solved(rows, from_means)))
+    if distance == d2:
+        return ON_OUTLINE
+    return INSIDE if distance < d2 else OUTSIDE
+
+
 def is_spoilt(event):
     return any(not LOWEST <= value <= HIGHEST for value in event)
 
@@ -694,6 +792,8 @@ def shape_holds(kind, body, event, bits):
         return ellipse_holds(*body[2:], event[body[0]], event[body[1]])
     if kind == DECIMAL_ELLIPSE:
         return decimal_ellipse_holds(*body[2:], event[body[0]], event[body[1]])
+    if kind == ELLIPSOID:
+        return ellipsoid_holds(*ellipsoid_of(body, event))
     if kind == AND:
         return all(operand_holds(word, bits) for word in body)
     if kind == OR:
@@ -719,6 +819,8 @@ def on_outline(kind, body, event):
         return ellipse_position(*body[2:], event[body[0]], event[body[1]]) == ON_OUTLINE
     if kind == DECIMAL_ELLIPSE:
         return decimal_ellipse_position(*body[2:], event[body[0]], event[body[1]]) == ON_OUTLINE
+    if kind == ELLIPSOID:
+        return ellipsoid_position(*ellipsoid_of(body, event)) == ON_OUTLINE
     return False
 
 
@@ -802,6 +904,9 @@ def membership(table):
         if gate.kind == b'ellip':
             x, y = [value[dimension] for dimension in gate.dimensions]
             return ellipse_holds(*ellipse_numbers(gate), x, y)
+        if gate.kind == b'ellip3':
+            point = [value[dimension] for dimension in gate.dimensions]
+            return ellipsoid_position_by_000(*ellipsoid_numbers(gate), point) != OUTSIDE
         if gate.kind == b'quad':
             for (dimension, fields), representative in zip(gate.dividers, representatives):
                 cuts = [number_value(field) for field in fields]
@@ -852,15 +957,17 @@ def outlines(table):
     members_of = membership(table)
 
     def position(gate, value):
-        x, y = [value[dimension] for dimension in gate.dimensions]
+        point = [value[dimension] for dimension in gate.dimensions]
         if gate.kind == b'poly':
-            return polygon_position([number_value(field) for field in gate.vertices], x, y)
-        return ellipse_position(*ellipse_numbers(gate), x, y)
+            return polygon_position([number_value(field) for field in gate.vertices], *point)
+        if gate.kind == b'ellip3':
+            return ellipsoid_position_by_000(*ellipsoid_numbers(gate), point)
+        return ellipse_position(*ellipse_numbers(gate), *point)
 
     def names_of(event):
         value = dict(zip(head, event))
         inside = members_of(event)
-        return {gate.name for gate in gates if gate.kind in (b'poly', b'ellip')
+        return {gate.name for gate in gates if gate.kind in (b'poly', b'ellip', b'ellip3')
                 and gate.name in inside and position(gate, value) == ON_OUTLINE}
 
     return names_of

@@ -12,6 +12,7 @@ Most inputs are small; a few stand at the limits of size.  Tables are built vali
 the role of every field known, and are then damaged on purpose where damage is wanted.
 """
 
+import itertools
 import math
 import random
 from decimal import Decimal
@@ -24,7 +25,7 @@ SIGNS = LETTERS + '0123456789-_'
 
 # No word is reserved: all of these are good names.
 TRICKY_NAMES = ['events', 'taken', 'spoilt', 'dims', 'refused', 'rect', 'poly', 'ellip', 'quad',
-                'and', 'or', 'not', 'in', 'less', 'A', 'z', 'A-', 'a_b', 'Z9', 'x-1-2-3_4_5_6_7',
+                'ellip3', 'and', 'or', 'not', 'in', 'less', 'A', 'z', 'A-', 'a_b', 'Z9', 'x-1-2-3_4_5_6_7',
                 'ABCDEFGHIJKLMNOP', 'ABCDEFGHIJKLMNOQ', 'dims08', 'apart', 'e1']
 
 LIMITS = (-65536, -65535, -65534, -1, 0, 1, 65534, 65535)
@@ -57,7 +58,8 @@ BAD_NAMES = [b'', b'9', b'9a', b'_a', b'a b', b'a.b', b'A' * 17, b'a' * 18, b' a
              b'a\x00', b'\xc3\xa9', b'a:single', b'*', b'!', b'!!R', b'--', b'-a', b'a!', b'\xff',
              b'a/b']
 BAD_KINDS = [b'', b'bogus', b'Rect', b'RECT', b'rect ', b' rect', b'rect\r', b'rects', b'rec',
-             b'ellip3', b'tope', b'tree', b'apart', b'dims', b'events ', b' events', b'events\r',
+             b'ellip2', b'ellip4', b'ellip33', b'Ellip3', b'ellip3 ', b'ellip3\r', b'ellip 3', b'ellipsoid', b'elli',
+             b'tope', b'tree', b'apart', b'dims', b'events ', b' events', b'events\r',
              b'Events', b'\x00', b'nor', b'!and', b'-', b'*', b'1', b'ellipse', b'quad2']
 BAD_COUNTS = [b'0', b'4', b'12', b'01', b'-1', b'*', b'x', b'', b'1 ', b'+1', b'9', b'1.', b'\r']
 BAD_MATRICES = [(4, 6, 9), (0, 0, 0), (-1, 0, 1), (1, 0, -1), (-5, 6, -9), (-5, 0, -9), (0, 0, 5),
@@ -77,6 +79,61 @@ GOOD_DECIMAL_MATRICES = [(4001, 6000, 9000), (1, 0, 1), (2, 1, 1), (2, -1, 1), (
                          (2000000000, -1999999999, 2000000000), (2000000000, 0, 2000000000), (1, 0, 2000000000), (2000000000, 0, 1),
                          (1, 44721, 2000000000), (1, -44721, 2000000000), (1000000000, 1414213562, 2000000000), (1999999999, 1999999998, 1999999999),
                          (1500, 500, 500), (999, -1, 999), (2000000000, -1, 2000000000)]
+# c11, c12, c13, c22, c23, c33 of an `ellip3` line. Of c11, the upper left determinant and the whole one the first list has c11 alone not above 0, ..
+C11_BAD = [(-1, 0, 0, -1, 0, 1), (-2, 1, 0, -1, 0, 1), (-5, 1, 2, -4, 3, 7), (-16777216, 0, 0, -16777216, 0, 16777216), (-1, 0, 0, -1, 0, 16777216),
+           (-3, 2, 1, -2, 1, 9), (-1, 4095, 0, -16777216, 5, 16777216)]
+# .. the second the upper left one alone; where it is 0, the whole one isn't above 0 either, ..
+MINOR_BAD = [(1, 0, 0, -1, 0, -1), (4, 6, 0, 8, 0, -1), (1, 2, 0, 3, 0, -1), (16777216, 0, 0, -16777216, 0, -16777216),
+             (16777216, 16777216, 0, 16777215, 0, -1), (3, 1, 2, -4, 1, -7), (1, 0, 5, -1, 0, 24), (1, 16777216, 0, 16777216, 0, -16777216),
+             (1, 2, 2, 1, 2, 1), (8388608, 16777216, 16777216, 8388608, 16777216, 8388608)]
+# .. and the third the whole one alone, which is 0, just below 0, or far below: there 64 bits or doubles take some for more than 0.
+WHOLE_BAD = [(1, 0, 0, 1, 0, 0), (1, 0, 1, 1, 0, 1), (5, 6, 0, 9, 0, 0), (1, 0, -1, 1, 0, 1), (1, 0, 0, 1, 1, 1), (1, 0, 0, 1, -1, 1), (2, 1, 1, 1, 1, 1),
+             (1, 1, 1, 2, 1, 1), (2, 1, -1, 2, -1, 0), (2, -1, -1, 2, -1, 2), (1, 0, 4096, 1, 0, 16777216), (1, 0, 0, 1, 4096, 16777216),
+             (16777216, 0, 16777216, 16777216, 0, 16777216), (16777216, 0, 0, 16777216, -16777216, 16777216),
+             (1, 0, 0, 1, 0, -1), (1, 0, 1, 1, 1, 1), (2, 1, 1, 2, 2, 1), (1, 0, 4096, 1, 1, 16777216), (16777216, 0, 0, 16777216, 0, -16777216),
+             (16777216, 0, 0, 16777216, 0, -16777215), (16777216, 0, 0, 16777216, 0, -1), (5, 6, 16777216, 9, -16777216, 16777216),
+             (16777215, 0, 16777216, 16777216, 0, 16777216), (65536, 0, 0, 65536, 0, -2147), (3, -2, -2, 3, -2, 3),
+             (11000889, 12065931, 9388212, 13352074, 10013963, 8691497), (7759057, -8969069, 2952329, 10369298, -3414623, 1125701),
+             (7039901, -5062277, 4476747, 3640493, -3219651, 2847650), (538280, -1689614, -2678230, 5364361, 8513140, 13511825)]
+# More of them fail at once.
+MORE_BAD = [(0, 0, 0, 0, 0, 0), (-1, 0, 0, 1, 0, 1), (-1, 0, 0, -1, 0, -1), (0, 1, 0, 1, 0, 1), (0, 0, 0, 1, 0, 1), (4, 6, 0, 9, 0, 1), (1, 1, 0, 1, 0, 1),
+            (1, -1, 2, 1, 3, 16777216), (1, 0, 0, 0, 0, 1), (0, 1, 1, 0, 1, 0), (-16777216,) * 6, (16777216,) * 6, (1, 2, 3, 4, 5, 6), (-5, 6, 0, -9, 0, 0),
+            (0, 0, 16777216, 0, 0, 0), (-16777216, 0, 0, -16777216, 0, -16777216)]
+BAD_ELLIPSOIDS = C11_BAD + MINOR_BAD + WHOLE_BAD + MORE_BAD
+GOOD_ELLIPSOIDS = [(1, 0, 0, 1, 0, 1), (5, 6, 0, 9, 0, 1), (2, 1, 0, 1, 0, 1), (1, 0, 0, 2, -1, 1), (2, 0, 1, 1, 0, 1), (3, 1, 1, 2, 1, 2),
+                   (3, -1, 1, 2, -1, 2), (2, -1, -1, 2, -1, 3), (16777216, 0, 0, 16777216, 0, 16777216), (1, 0, 0, 16777216, 0, 1), (16777216, 0, 0, 1, 0, 1),
+                   (16777216, 16777215, 0, 16777216, 0, 16777216), (16777216, 0, -16777215, 16777216, 0, 16777216),
+                   (16777216, 0, 0, 16777216, 16777215, 16777216), (16777216, 8388608, 8388608, 16777216, 8388608, 16777216),
+                   (16777216, -8388607, -8388608, 16777216, -8388608, 16777216), (16777216, 16777215, 16777214, 16777216, 16777215, 16777216),
+                   (1, 0, 4095, 1, 0, 16777216), (1, 0, 0, 1, -4095, 16777216), (1, 4095, 0, 16777216, 0, 1), (280, 236, 74, 472, 310, 553),
+                   (553, -310, 74, 472, -236, 280), (40000, 0, 0, 30625, 0, 10000), (65536, 0, 0, 256, 0, 65536),
+                   (10173257, -10818853, -9496182, 11505659, 10098781, 8864173), (8729642, -5026689, 9658324, 2895990, -5562850, 10687099)]
+# What stands behind name and parent of an `ellip3` line under `dims A B C D`, and what it is refused with.
+ELLIP3_LINES = [
+    ('A B C 0 0 0 1 0 0 1 0 1 1', 0), ('D B A 5 -6 7 280 236 74 472 310 553 9', 0), ('C A B -65536 65535 0 16777216 0 0 16777216 0 16777216 4096', 0),
+    ('B C D 0 0 0 5 6 0 9 0 1 1', 0), ('A B D 1 2 3 16777216 -8388607 -8388608 16777216 -8388608 16777216 1', 0), ('A C B 0 0 0 3 1 1 2 1 2 4', 0),
+    ('A B C 0 0 0 1 0 0 1 0 1', 5), ('A B C 0 0 0 1 0 0 1 0 1 1 1', 5), ('A B C 0 0 0 1 0 0 1 0 1 1 ', 5), ('A B 0 0 1 0 1 1', 5),
+    ('A B 0 0 0 1 0 0 1 0 1 1', 5), ('A B C 0 0 0 1 0 0 0 1 0 0 0 1 1', 5), ('A B C D 0 0 0 0 1 0 0 1 0 1 1', 5), ('A B C 0 0 1 0 0 1 0 1 1', 5),
+    ('A B C', 5), ('A B 0 0 -0.0 0 1 5', 5),
+    ('A B C 0.0 0 0 1 0 0 1 0 1 1', 7), ('A B C 0 1.5 0 1 0 0 1 0 1 1', 7), ('A B C 0 0 -0.5 1 0 0 1 0 1 1', 7), ('A B C 0 0 0 1.0 0 0 1 0 1 1', 7),
+    ('A B C 0 0 0 1 0.5 0 1 0 1 1', 7), ('A B C 0 0 0 1 0 0.000 1 0 1 1', 7), ('A B C 0 0 0 1 0 0 1.5 0 1 1', 7), ('A B C 0 0 0 1 0 0 1 -0.25 1 1', 7),
+    ('A B C 0 0 0 1 0 0 1 0 1134.5 1', 7), ('A B C 0 0 0 1 0 0 1 0 1 0.5', 7), ('A B C 0 0 0 1 0 0 1 0 1 1.0', 7),
+    ('A B C 0 0 0 1.0 0.0 0.0 1.0 0.0 1.0 1.0', 7), ('A B C 0 0 0 1 -0 0 1 0 1 1', 7), ('A B C * 0 0 1 0 0 1 0 1 1', 7),
+    ('A B C 0 0 0 1 0 0 1 0 * 1', 7), ('A B C 0 0 0 1 0 0 1 0 1 *', 7),
+    ('A A Z 0 0 99999 4 6 0 9 0 1 1.0', 7), ('A B C 0 0 0 99999999999 0 0 1 0 x 1', 7),
+    ('A B C 65536 0 0 1 0 0 1 0 1 1', 8), ('A B C 0 -65537 0 1 0 0 1 0 1 1', 8), ('A B C 0 0 65536 1 0 0 1 0 1 1', 8), ('A B C 0 0 -65537 1 0 0 1 0 1 1', 8),
+    ('A B C 0 0 0 16777217 0 0 1 0 1 1', 8), ('A B C 0 0 0 1 16777217 0 1 0 1 1', 8), ('A B C 0 0 0 1 0 -16777217 1 0 1 1', 8),
+    ('A B C 0 0 0 1 0 0 16777217 0 1 1', 8), ('A B C 0 0 0 1 0 0 1 -16777217 1 1', 8), ('A B C 0 0 0 1 0 0 1 0 16777217 1', 8),
+    ('A B C 0 0 0 1 0 0 1 0 1 0', 8), ('A B C 0 0 0 1 0 0 1 0 1 -1', 8), ('A B C 0 0 0 1 0 0 1 0 1 4097', 8), ('A B C 0 0 0 4 6 0 9 0 1 0', 8),
+    ('A A B 0 0 0 1 0 0 1 0 1 4097', 8),
+    ('A B Z 0 0 0 1 0 0 1 0 16777217 1', 8), ('A B C 0 0 0 1 0 0 1 0 4294967297 1', 8),
+    ('A A B 0 0 0 1 0 0 1 0 1 1', 9), ('A B A 0 0 0 1 0 0 1 0 1 1', 9), ('A B B 0 0 0 1 0 0 1 0 1 1', 9), ('C C C 0 0 0 1 0 0 1 0 1 1', 9),
+    ('Z B C 0 0 0 1 0 0 1 0 1 1', 9), ('A Z C 0 0 0 1 0 0 1 0 1 1', 9), ('A B Z 0 0 0 1 0 0 1 0 1 1', 9), ('A B  0 0 0 1 0 0 1 0 1 1', 9),
+    ('A B 5 0 0 0 1 0 0 1 0 1 1', 9), ('A B A 0 0 0 4 6 0 9 0 1 1', 9), ('A B Z 0 0 0 0 0 0 0 0 0 1', 9),
+    ('A B C 0 0 0 -1 0 0 -1 0 1 1', 11), ('A B C 0 0 0 1 0 0 -1 0 -1 1', 11), ('A B C 0 0 0 1 0 0 1 0 -1 1', 11), ('A B C 0 0 0 1 0 1 1 0 1 1', 11),
+    ('A B C 0 0 0 4 6 0 9 0 1 1', 11), ('A B C 0 0 0 0 0 0 0 0 0 1', 11), ('A B C 0 0 0 16777216 0 0 16777216 0 -16777215 1', 11),
+    ('A B C 0 0 0 16777216 16777216 16777216 16777216 16777216 16777216 4096', 11), ('A B C 0 0 0 1 0 0 0 0 1 1', 11),
+    ('A B C 0 0 0 2 -1 -1 2 -1 2 1', 11), ('D C B 0 0 0 3 -2 -2 3 -2 3 1', 11), ('A B C 0 0 0 1 2 2 1 2 1 1', 11)]
 # c11, c12, c22, D2 of an `ellip` line, and what it is refused with.
 DECIMAL_LINES = (
     ('1134.5 -234.5 1134.5 1', 0), ('1 0 1 0.001', 0), ('1 0 1 4096.0', 0), ('1 0 1 4096.000', 0), ('1 0 1 4095.999', 0), ('1 0.0 1 1', 0),
@@ -355,33 +412,46 @@ def decimal_sides(entries, d2, dx, dy):
     return (c22 * dx * dx - 2 * c12 * dx * dy + c11 * dy * dy) * 10 ** 6, d2 * (c11 * c22 - c12 * c12)
 
 
+def ellipsoid_sides(entries, d2, dx, dy, dz):
+    """The two sides of the rule for an ellipsoid."""
+    c11, c12, c13, c22, c23, c33 = entries
+    left = ((c22 * c33 - c23 * c23) * dx * dx + (c11 * c33 - c13 * c13) * dy * dy + (c11 * c22 - c12 * c12) * dz * dz
+            + 2 * ((c13 * c23 - c12 * c33) * dx * dy + (c12 * c23 - c13 * c22) * dx * dz + (c12 * c13 - c11 * c23) * dy * dz))
+    return left, d2 * (c11 * c22 * c33 + 2 * c12 * c13 * c23 - c11 * c23 * c23 - c22 * c13 * c13 - c33 * c12 * c12)
+
+
+def both_sides(entries, d2, point):
+    """Of an ellipse with all in thousandths, or of an ellipsoid."""
+    return decimal_sides(entries, d2, *point) if len(point) == 2 else ellipsoid_sides(entries, d2, *point)
+
+
 def in_64_bits(value):
     return (value + 2 ** 63) % 2 ** 64 - 2 ** 63
 
 
-def wrong_in_64_bits(entries, d2, dx, dy):
+def wrong_in_64_bits(entries, d2, *point):
     """Whether sides that wrap at 64 bits say otherwise whether the point is inside."""
-    left, right = decimal_sides(entries, d2, dx, dy)
+    left, right = both_sides(entries, d2, point)
     return (in_64_bits(left) <= in_64_bits(right)) != (left <= right)
 
 
-def wrong_in_doubles(entries, d2, dx, dy):
+def wrong_in_doubles(entries, d2, *point):
     """Whether doubles say otherwise whether the point is inside."""
-    left, right = decimal_sides(entries, d2, dx, dy)
-    near, far = decimal_sides([float(entry) for entry in entries], float(d2), float(dx), float(dy))
+    left, right = both_sides(entries, d2, point)
+    near, far = both_sides([float(entry) for entry in entries], float(d2), [float(step) for step in point])
     return (near <= far) != (left <= right)
 
 
-def rim_wrong_in_64_bits(entries, d2, dx, dy):
+def rim_wrong_in_64_bits(entries, d2, *point):
     """Whether sides that wrap at 64 bits are equal and the point isn't on the rim."""
-    left, right = decimal_sides(entries, d2, dx, dy)
+    left, right = both_sides(entries, d2, point)
     return left != right and (left - right) % 2 ** 64 == 0
 
 
-def rim_wrong_in_doubles(entries, d2, dx, dy):
+def rim_wrong_in_doubles(entries, d2, *point):
     """Whether doubles say otherwise whether the point is on the rim."""
-    left, right = decimal_sides(entries, d2, dx, dy)
-    near, far = decimal_sides([float(entry) for entry in entries], float(d2), float(dx), float(dy))
+    left, right = both_sides(entries, d2, point)
+    near, far = both_sides([float(entry) for entry in entries], float(d2), [float(step) for step in point])
     return (near == far) != (left == right)
 
 
@@ -549,6 +619,224 @@ def ellipse_through(rng, x, y):
     return means, (1, 0, 1), 1 + (y - means[1]) ** 2
 
 
+# ---------------------------------------------------------------- ellipsoids
+
+MOST_ENTRY = 16777216
+
+
+def whole_determinant(entries):
+    return ellipsoid_sides(entries, 1, 0, 0, 0)[1]
+
+
+def is_good_ellipsoid(entries):
+    return (max(map(abs, entries)) <= MOST_ENTRY and entries[0] > 0 and entries[0] * entries[3] > entries[1] * entries[1]
+            and whole_determinant(entries) > 0)
+
+
+def products(rows, weights=(1, 1, 1)):
+    """The matrix M W Mt, by the rows of M and the three numbers of W."""
+    pairs = ((0, 0), (0, 1), (0, 2), (1, 1), (1, 2), (2, 2))
+    return tuple(sum(weight * a * b for weight, a, b in zip(weights, rows[one], rows[other])) for one, other in pairs)
+
+
+def through_map(rows, point):
+    return tuple(sum(entry * part for entry, part in zip(row, point)) for row in rows)
+
+
+def turned_points(rng, point):
+    """A point with its parts in any order and of any sign, some of all those."""
+    points = {tuple(sign * point[at] for sign, at in zip(signs, order)) for order in itertools.permutations(range(3))
+              for signs in itertools.product((-1, 1), repeat=3)}
+    return rng.sample(sorted(points), min(6, len(points)))
+
+
+def sphere_point(rng):
+    """A whole point other than (0, 0, 0) whose square is at most 4,096."""
+    size = rng.choice((1, 1, 2, 3, 9, 36))
+    point = (rng.randint(0, size), rng.randint(0, size), rng.randint(1, size))
+    return rng.choice((point, point, (1, 2, 2), (2, 3, 6), (0, 3, 4), (6, 21, 22), (0, 0, 64), (32, 32, 32)))
+
+
+def upright_ellipsoid(rng):
+    """Axes a, b, c along the dimensions: (a x, b y, c z) is on the rim where D2 is x2 + y2 + z2."""
+    a, b, c = [rng.choice((1, 2, 3, 5, 7, 60, 1000, 4093, 4095, 4096)) for _ in range(3)]
+    point = sphere_point(rng)
+    return (a * a, 0, 0, b * b, 0, c * c), sum(part * part for part in point), [(a * x, b * y, c * z) for x, y, z in turned_points(rng, point)]
+
+
+def mapped_sphere(rng, large=False):
+    """A sphere seen through a whole map M: the matrix is s M Mt, and M u is on the rim where D2 is u2 / s."""
+    while True:
+        if large:
+            # As large as the ranges allow, and with odd products: more than 64 bits.
+            rows = [[rng.choice((-1, 1)) * rng.randint(700, 2300) for _ in range(3)] for _ in range(3)]
+        else:
+            size = rng.choice((1, 2, 3, 5, 40, 300))
+            rows = [[rng.randint(-size, size) for _ in range(3)] for _ in range(3)]
+        point = sphere_point(rng)
+        square, k = sum(part * part for part in point), 1
+        if rng.random() < 0.3:
+            k = rng.choice((1, 2, 3, 11, 31, 64))
+            scale, d2 = square, k * k
+        else:
+            scale, d2 = 1, square
+        entries = tuple(scale * entry for entry in products(rows))
+        if is_good_ellipsoid(entries):
+            return entries, d2, [tuple(k * part for part in through_map(rows, each)) for each in turned_points(rng, point)]
+
+
+def thin_map(rng):
+    """The rows of a whole map with a determinant of 1: rows added to one another, as long as their squares stay in the range of entries."""
+    rows, most = [[1, 0, 0], [0, 1, 0], [0, 0, 1]], rng.choice((40, 10000, MOST_ENTRY, MOST_ENTRY))
+    for _ in range(rng.choice((4, 20, 40))):
+        one, other = rng.sample(range(3), 2)
+        k = rng.choice((-7, -2, -1, 1, 2, 7))
+        row = [entry + k * more for entry, more in zip(rows[one], rows[other])]
+        if sum(entry * entry for entry in row) <= most:
+            rows[one] = row
+    return rows
+
+
+def thin_ellipsoid(rng):
+    """A determinant of 1, however large the entries, and points on the rim or, where D2 is 1 more or less, beside it by little."""
+    rows, point = thin_map(rng), rng.choice(((1, 0, 0), (1, 1, 0), (1, 1, 1), (2, 0, 1), (1, 2, 2), (5, 3, 1)))
+    d2 = sum(part * part for part in point) + rng.choice((0, 0, 0, -1, 1))
+    return products(rows), max(1, d2), [through_map(rows, each) for each in turned_points(rng, point)]
+
+
+def small_ellipsoid(rng):
+    """Small entries, and D2 by one of the places around for which it is whole: its rim, and that of others with the same D2, was looked for."""
+    while True:
+        size = rng.choice((2, 4, 9))
+        entries = [rng.randint(1, size) if at in (0, 3, 5) else rng.randint(-size, size) for at in range(6)]
+        if not is_good_ellipsoid(entries):
+            continue
+        whole = whole_determinant(entries)
+        lefts = [(point, ellipsoid_sides(entries, 1, *point)[0]) for point in itertools.product(range(-3, 4), repeat=3)]
+        widths = [left // whole for _, left in lefts if left % whole == 0 and 0 < left <= 4096 * whole]
+        if widths:
+            d2 = rng.choice(widths)
+            rim = [point for point, left in lefts if left == d2 * whole]
+            return tuple(entries), d2, rng.sample(rim, min(6, len(rim)))
+
+
+def flat_ellipsoid(rng):
+    """The third dimension apart from the others, c13 and c23 being 0: an ellipse where it is at its mean."""
+    (c11, c12, c22), d2, rim = rng.choice((matrix, rim_matrix))(rng)
+    axis = rng.choice((1, 2, 7, 100, 4096))
+    points = [(dx, dy, 0) for dx, dy in rim]
+    if math.isqrt(d2) ** 2 == d2:
+        points += [(0, 0, way * axis * math.isqrt(d2)) for way in (-1, 1)]
+    return (c11, c12, 0, c22, 0, axis * axis), d2, points
+
+
+def wrapped_ellipsoid(rng):
+    """Both sides are multiples of 2 to the 64, at the middle and at points inside."""
+    sizes = rng.choice(((24, 24, 24), (24, 24, 24), (24, 20, 20), (22, 24, 20), (18, 22, 24)))
+    c11, c22, c33 = [2 ** size for size in sizes]
+    points = [point for point in itertools.product((-4096, 0, 4096), repeat=3) if point.count(0) > 0]
+    return (c11, 0, 0, c22, 0, c33), rng.choice((1, 2, 64, 4095, 4096)), rng.sample(points, 5) + [(0, 0, 0)] * 2
+
+
+def axis_crossings(entries, d2):
+    """The last whole points inside along the three dimensions, and the first outside."""
+    right, points = ellipsoid_sides(entries, d2, 0, 0, 0)[1], []
+    for way in ((1, 0, 0), (0, 1, 0), (0, 0, 1)):
+        last = math.isqrt(right // ellipsoid_sides(entries, 1, *way)[0])
+        points += [tuple(k * part for part in way) for k in (last, last + 1, -last, -last - 1)]
+    return points
+
+
+def ellipsoid_matrix(rng):
+    """A good matrix, D2, and some points on the rim, less the means."""
+    style = rng.random()
+    if style < 0.13:
+        return upright_ellipsoid(rng)
+    if style < 0.33:
+        return mapped_sphere(rng)
+    if style < 0.45:
+        return mapped_sphere(rng, True)
+    if style < 0.55:
+        return thin_ellipsoid(rng)
+    if style < 0.7:
+        return small_ellipsoid(rng)
+    if style < 0.78:
+        return flat_ellipsoid(rng)
+    if style < 0.84:
+        return wrapped_ellipsoid(rng)
+    if style < 0.93:
+        entries, d2 = rng.choice(GOOD_ELLIPSOIDS), rng.choice((1, 1, 2, 9, 4095, 4096))
+    else:
+        while True:
+            entries, d2 = tuple(rng.randint(1, 400) if at in (0, 3, 5) else rng.randint(-300, 300) for at in range(6)), rng.randint(1, 9)
+            if is_good_ellipsoid(entries):
+                break
+    return entries, d2, axis_crossings(entries, d2)
+
+
+def bad_ellipsoid(rng):
+    """A matrix in range that isn't good: of the three determinants one or more are 0 or below."""
+    style = rng.random()
+    if style < 0.5:
+        return rng.choice(rng.choice((C11_BAD, MINOR_BAD, WHOLE_BAD, MORE_BAD)))
+    if style < 0.6:     # a determinant of 0 or -1, however large the entries
+        return products(thin_map(rng), rng.choice(((1, 1, 0), (1, 1, 0), (1, 1, -1))))
+    if style < 0.7:     # less by one than a good one, in an entry of the diagonal, until it isn't
+        entries = list(rng.choice((small_ellipsoid, thin_ellipsoid, mapped_sphere))(rng)[0])
+        at = rng.choice((0, 3, 5))
+        while is_good_ellipsoid(entries):
+            entries[at] -= rng.choice((1, max(1, entries[at] // 2)))
+        return tuple(entries)
+    while True:
+        # c11 is the first weight, and each determinant is the one before it times the next.
+        weights = rng.choice(((1, 1, 0), (1, 1, -1), (1, 1, -2), (1, -1, -1), (1, 0, 1), (-1, -1, 1), (-1, 1, 1), (0, 1, 1), (-1, -1, -1)))
+        size = rng.choice((1, 3, 60, 2800, 4000))
+        a, b, c = [rng.randint(-size, size) for _ in range(3)]
+        k = rng.choice((1, 1, 2, 7))
+        entries = products([[1, 0, 0], [a, 1, 0], [b, c, 1]], [k * weight for weight in weights])
+        if max(map(abs, entries)) <= MOST_ENTRY:
+            return entries
+
+
+def ellipsoid_telling(rng, entries, d2, points):
+    """Those of some points, less the means, at which 64 bits or doubles would say otherwise."""
+    far = [tuple(rng.choice((-131071, 131071)) for _ in range(3)), tuple(rng.randint(-65535, 65535) for _ in range(3))]
+    points = points + axis_crossings(entries, d2) + far + [(0, 0, 0)]
+    rng.shuffle(points)
+    found = []
+    for otherwise in (wrong_in_64_bits, rim_wrong_in_64_bits, wrong_in_doubles, rim_wrong_in_doubles):
+        found += [point for point in points if otherwise(entries, d2, *point)][:2]
+    return found
+
+
+def ellipsoid(rng, value):
+    """Means, matrix, D2, and points on the rim, beside it, amid, and telling ones."""
+    means = [value() for _ in range(3)]
+    entries, d2, rim = ellipsoid_matrix(rng)
+    step = rng.choice(rim)
+    if not on_scale([mean + part for mean, part in zip(means, step)]):
+        # At least one point of a wide ellipsoid's rim is to be on the scale.
+        means = [clip(-part // 2) for part in step]
+    beside = [tuple(part + rng.randint(-1, 1) for part in point) for point in rim]
+    beside += [tuple(part + (rng.choice((-1, 1)) if at == turn % 3 else 0) for at, part in enumerate(point)) for turn, point in enumerate(rim)]
+    steps = rim * 2 + beside + [(0, 0, 0)] + ellipsoid_telling(rng, entries, d2, rim) * 2
+    points = [tuple(mean + part for mean, part in zip(means, step)) for step in steps]
+    return means, entries, d2, [point for point in points if on_scale(point)] or [tuple(means)]
+
+
+def ellipsoid_through(rng, place):
+    """Means, matrix and D2 of an ellipsoid with the place mostly on its rim or where it tells; it may be off the scale."""
+    for _ in range(10):
+        entries, d2, rim = ellipsoid_matrix(rng)
+        hard = ellipsoid_telling(rng, entries, d2, rim)
+        step = rng.choice(hard if hard and rng.random() < 0.3 else rim)
+        means = [value - part for value, part in zip(place, step)]
+        if on_scale(means):
+            return means, entries, d2
+    means = [place[0] - 1 if place[0] > 0 else place[0] + 1, *map(clip, place[1:])]
+    return means, (1, 0, 0, 1, 0, 1), sum((value - mean) ** 2 for value, mean in zip(place, means))
+
+
 # ---------------------------------------------------------------- valid tables
 
 class Line:
@@ -575,7 +863,7 @@ class Table:
 
     def __init__(self, rng, n=None, span=None):
         self.rng = rng
-        self.n = n or rng.choice((1, 2, 2, 2, 2, 3, 3, 4, 5, 8))
+        self.n = n or rng.choice((1, 2, 2, 2, 3, 3, 3, 4, 5, 8))
         # Small spans make events meet edges and rims by chance too.
         self.span = span or rng.choice(((-5, 5), (-5, 5), (-20, 20), (0, 1000), (-65536, 65535)))
         # Now and then half of all numbers stand at the ends of the scale.
@@ -716,6 +1004,22 @@ class Table:
         line.add(roles[1], texts[3])
         return self.finish(line, 12)
 
+    def ellip3(self):
+        line = self.begin(b'ellip3')
+        chosen = self.rng.sample(range(self.n), 3)
+        means, entries, d2, points = ellipsoid(self.rng, self.value)
+        for point in points:
+            self.points.append(list(zip(chosen, point)))
+        return self.finish_ellip3(line, chosen, means, entries, d2)
+
+    def finish_ellip3(self, line, chosen, means, entries, d2):
+        for dimension in chosen:
+            line.add('dimension', self.dimensions[dimension])
+        for role, values in (('mean', means), ('entry', entries), ('d2', [d2])):
+            for value in values:
+                line.add(role, text(value))
+        return self.finish(line, 17)
+
     def quad(self, room=None):
         """A quadrant gate; with one quadrant that holds all if there is no room for more."""
         rng = self.rng
@@ -768,6 +1072,8 @@ class Table:
         kinds = ['rect', 'quad']
         if self.n > 1:
             kinds += ['poly', 'poly', 'ellip', 'ellip']
+        if self.n > 2:
+            kinds += ['ellip3', 'ellip3']
         if self.regions:
             kinds += ['and', 'or', 'not']
         kind = rng.choice(kinds)
@@ -777,6 +1083,8 @@ class Table:
             return self.poly()
         if kind == 'ellip':
             return self.ellip()
+        if kind == 'ellip3':
+            return self.ellip3()
         if kind == 'quad':
             return self.quad()
         if kind == 'not':
@@ -946,13 +1254,13 @@ class OutlineTable(Table):
             return clip(self.rng.choice(self.middle) + self.rng.randint(-1, 1))
         return super().value()
 
-    def aim(self, first, second):
-        """The event's place in two dimensions, or one beside it, which may be off the scale."""
+    def aim(self, *dimensions):
+        """The event's place in some dimensions, or one beside it, which may be off the scale."""
         rng = self.rng
-        x, y = self.middle[first], self.middle[second]
+        place = [self.middle[dimension] for dimension in dimensions]
         if rng.random() < 0.25:
-            x, y = x + rng.randint(-1, 1), y + rng.randint(-1, 1)
-        return x, y
+            place = [value + rng.randint(-1, 1) for value in place]
+        return place
 
     def rect(self):
         rng = self.rng
@@ -982,6 +1290,11 @@ class OutlineTable(Table):
         through = decimal_through if decimals else ellipse_through
         return self.finish_ellip(line, first, second, *through(self.rng, *self.aim(first, second)), decimals=decimals)
 
+    def ellip3(self):
+        line = self.begin(b'ellip3')
+        chosen = self.rng.sample(range(self.n), 3)
+        return self.finish_ellip3(line, chosen, *ellipsoid_through(self.rng, self.aim(*chosen)))
+
     def operand(self):
         """The event is in most regions; with less of `!` it is in more combinations too."""
         name = self.rng.choice(self.regions)
@@ -999,7 +1312,7 @@ class OutlineTable(Table):
 def outline_table(rng):
     """Outlines at one event, children of every kind in them, and combinations over them."""
     table = OutlineTable(rng)
-    rng.choice((table.poly, table.ellip))()
+    rng.choice((table.poly, table.ellip, table.ellip3 if table.n > 2 else table.ellip))()
     table.fill(rng.choice((0, 1, 2, 3, 4, 6, 9, 64)))
     return table.mix()
 
@@ -1097,6 +1410,9 @@ def damage_shape(table, line):
     if style == 0:
         line.fields = line.fields[:rng.randint(1, 3)]
         return True
+    if line.kind in (b'ellip', b'ellip3') and style == 1:     # the other's fields
+        line.fields[0] = b'ellip3' if line.kind == b'ellip' else b'ellip'
+        return True
     if line.kind == b'quad' and style < 4:
         line.fields[rng.choice(line.places('dividers', 'values'))] = rng.choice(BAD_COUNTS)
         return True
@@ -1157,7 +1473,7 @@ def damage_range(table, line):
     rng = table.rng
     at = rng.choice(numbers)
     role = line.roles[at]
-    if role in DECIMAL_RANGES or (role in ('entry', 'd2') and rng.random() < 0.4):
+    if role in DECIMAL_RANGES or (line.kind == b'ellip' and role in ('entry', 'd2') and rng.random() < 0.4):
         return damage_decimal_range(rng, line)
     low, high = RANGES[role]
     line.fields[at] = rng.choice((
@@ -1228,7 +1544,9 @@ def damage_matrix(table, line):
     entries = line.places('entry', 'decimal entry')
     if not entries:
         return False
-    if line.places('entry') and rng.random() < 0.7:
+    if line.kind == b'ellip3':
+        texts = [text(entry) for entry in bad_ellipsoid(rng)]
+    elif line.places('entry') and rng.random() < 0.7:
         texts = [text(entry) for entry in rng.choice(BAD_MATRICES)]
     else:
         texts = decimal_texts(rng, rng.choice(BAD_DECIMAL_MATRICES))
@@ -1272,6 +1590,8 @@ LINE_DAMAGES = ((4, damage_kind), (5, damage_shape), (6, damage_name), (7, damag
 def line_for(table, number):
     """A line, made if need be, that the damage for a refusal can work on."""
     rng = table.rng
+    if table.n > 2 and number in (7, 8, 9, 11) and rng.random() < 0.4:
+        return table.ellip3()
     if number == 11:
         return table.ellip()
     if number == 12:
@@ -1285,7 +1605,7 @@ def line_for(table, number):
 
 def one_fault(rng, number):
     """A table with a bad line and its place; more bad ones may follow that don't count."""
-    table = Table(rng, n=rng.choice((2, 2, 3, 8)))
+    table = Table(rng, n=rng.choice((2, 3, 3, 8)))
     table.rect()
     table.fill(rng.choice((0, 1, 2, 3)))
     damage = dict(LINE_DAMAGES)[number]
@@ -1305,7 +1625,7 @@ def many_faults(rng):
     table = Table(rng, n=rng.choice((2, 3, 8)))
     table.rect()
     table.rect()
-    line = rng.choice((table.rect, table.poly, table.ellip, table.quad, table.quad, table.gate))()
+    line = rng.choice((table.rect, table.poly, table.ellip, table.quad, table.quad, table.gate, table.ellip3 if table.n > 2 else table.gate))()
     if line.kind == b'rect' and rng.random() < 0.5:
         # A box with a fault of its own in each triple.
         line.fields, line.roles = line.fields[:3], line.roles[:3]
@@ -1627,6 +1947,39 @@ def case_decimal_event(rng):
     return Case('event with decimals', table.bytes() + with_events(table, 2) + join([b'\t'.join(values)]), (23,))
 
 
+def case_ellipsoids(rng):
+    """Ellipsoids, and events upon and beside their rims."""
+    table = Table(rng, n=rng.choice((3, 3, 3, 4, 8)), span=rng.choice(((-5, 5), (-20, 20), (-65536, 65535))))
+    for _ in range(rng.randint(1, 3)):
+        table.ellip3()
+    table.fill(rng.choice((0, 0, 2)))
+    return accepted('ellipsoids', table.mix(), 25, orders=rng.random() < 0.2)
+
+
+def case_ellip3_line(rng, given=None):
+    """One of the lines worked out by hand."""
+    table = Table(rng, n=4)
+    table.dimensions = [b'A', b'B', b'C', b'D']
+    table.fill(rng.choice((0, 0, 1, 3)))
+    behind, number = given or rng.choice(ELLIP3_LINES)
+    line = b'\t'.join([b'ellip3', table.name(), b'-', *behind.encode().split(b' ')])
+    if number == 0:
+        fields = behind.split(' ')
+        chosen, numbers = ['ABCD'.index(name) for name in fields[:3]], [int(field) for field in fields[3:]]
+        for step in axis_crossings(numbers[3:9], numbers[9]):
+            table.points += [[(dimension, clip(mean + part)) for dimension, mean, part in zip(chosen, numbers, step)]] * 3
+    return Case('ellip3 line', table.bytes() + line + b'\n' + with_events(table, 8), (number,), place=len(table.lines) + 2 if number else None)
+
+
+def case_bad_ellipsoid(rng):
+    """A matrix that isn't good on an `ellip3` line, which is in order in all else."""
+    table = Table(rng, n=rng.choice((3, 3, 8))).fill(rng.choice((0, 1, 3)))
+    line = table.ellip3()
+    damage_matrix(table, line)
+    table.mix()
+    return Case('bad ellipsoid', table.bytes() + with_events(table, 1), (11,), place=table.lines.index(line) + 2)
+
+
 def case_quadrants(rng):
     table = Table(rng, n=rng.choice((1, 2, 3, 4)))
     table.quad()
@@ -1819,7 +2172,7 @@ FAMILIES = ((140, case_small), (90, case_referring), (110, case_outlines), (60, 
             (10, case_crowded), (3, case_crowded_then_bad), (30, case_twin), (30, case_dead), (40, case_circle),
             (7, case_plan_size), (3, case_polygons), (4, case_table_size), (4, case_long_number),
             (5, case_input_size), (3, case_long_table_part), (40, case_many_events), (90, case_decimals), (15, case_decimal_line),
-            (5, case_decimal_event), (35, case_long_outlines))
+            (5, case_decimal_event), (35, case_long_outlines), (90, case_ellipsoids), (10, case_ellip3_line), (15, case_bad_ellipsoid))
 
 # The limits of size and one of each refusal stand at the beginning of every run, so that
 # none is left to chance; so does each number of vertices.
@@ -1832,6 +2185,7 @@ FIRST = ([lambda rng, size=size: case_table_size(rng, size) for size in (32767, 
          + [lambda rng, style=style: case_list_forms(rng, style) for style in range(10)]
          + [lambda rng, given=given: case_decimal_line(rng, given) for given in DECIMAL_LINES]
          + [lambda rng, line=line: case_point_elsewhere(rng, line) for line in POINTS_ELSEWHERE]
+         + [lambda rng, given=given: case_ellip3_line(rng, given) for given in ELLIP3_LINES]
          + [lambda rng, sizes=sizes: case_long_outlines(rng, sizes) for sizes in long_outlines.TURNS]
          + [case_crowded, case_crowded_then_bad, case_full, case_twin, case_dead, case_circle,
             case_open_table, case_head, case_long_table_part, case_decimal_event])
@@ -1873,6 +2227,8 @@ def orders(rng, lines, k):
 
 # The last four words of an ellipse, by its kind.
 ELLIPSE_ROLES = {3: ('c11', 'c12', 'c22', 'd2'), 7: ('decimal c11', 'decimal c12', 'decimal c22', 'decimal d2')}
+# The last seven of an ellipsoid.
+ELLIPSOID_ROLES = ('c11 of 3', 'c12 of 3', 'c13 of 3', 'c22 of 3', 'c23 of 3', 'c33 of 3', 'd2 of 3')
 
 
 class Plan:
@@ -1881,7 +2237,7 @@ class Plan:
     def __init__(self, rng, steps=None):
         self.rng = rng
         self.words, self.roles = [], []
-        self.n = rng.choice((1, 2, 2, 3, 4, 8))
+        self.n = rng.choice((1, 2, 2, 3, 3, 4, 8))
         steps = rng.choice((0, 1, 1, 2, 3, 3, 4, 6, 10)) if steps is None else steps
         # Any order of regions is good aboard.
         order = list(range(steps))
@@ -1910,7 +2266,9 @@ class Plan:
         rng = self.rng
         kinds = [1, 1, 1, 1]
         if self.n > 1:
-            kinds += [2, 2, 3, 3, 3, 7, 7]
+            kinds += [2, 2, 3, 3, 3, 7, 7, 7]
+        if self.n > 2:
+            kinds += [8, 8, 8]
         if earlier:
             kinds += [4, 5, 6] * 2
         kind = rng.choice(kinds)
@@ -1953,7 +2311,7 @@ class Plan:
             self.add('dimension', first)
             self.add('dimension', second)
             if kind == 3:
-                means, entries, d2, points = ellipse(rng, self.value, rng.choice((matrix, rim_matrix)))
+                means, entries, d2, points = ellipse(rng, self.value, rng.choice((matrix, rim_matrix, odd_rim)))
             else:
                 means, entries, d2, points = decimal_ellipse(rng, self.value)
             for mean in means:
@@ -1961,6 +2319,17 @@ class Plan:
             for role, word in zip(ELLIPSE_ROLES[kind], (*entries, d2)):
                 self.add(role, word)
             self.points += [[(first, x), (second, y)] for x, y in points]
+        elif kind == 8:
+            chosen = rng.sample(range(self.n), 3)
+            self.add('length', 13)
+            for dimension in chosen:
+                self.add('dimension', dimension)
+            means, entries, d2, points = ellipsoid(rng, self.value)
+            for mean in means:
+                self.add('mean', mean)
+            for role, word in zip(ELLIPSOID_ROLES, (*entries, d2)):
+                self.add(role, word)
+            self.points += [list(zip(chosen, point)) for point in points]
         else:
             size = 1 if kind == 6 else rng.choice((2, 2, 3, 5, 63 if rng.random() < 0.1 else 4))
             self.add('length', size)
@@ -1980,7 +2349,7 @@ ODD_WORDS = (-2147483648, 2147483647, -65537, -65536, -65535, -2, -1, 0, 1, 2, 3
              16777217, -16777216, -16777217, 131072, 2000000000, 2000000001, -2000000000, -2000000001, 4096000, 4096001)
 
 ROLES = ('n', 'steps', 'kind', 'region', 'parent', 'length', 'dimension', 'min', 'max', 'vertex',
-         'mean', *ELLIPSE_ROLES[3], *ELLIPSE_ROLES[7], 'operand')
+         'mean', *ELLIPSE_ROLES[3], *ELLIPSE_ROLES[7], *ELLIPSOID_ROLES, 'operand')
 
 
 def odd_word(rng, plan, words, at):
@@ -2038,6 +2407,18 @@ def broken_rules(plan):
                         breaks('entry off range, kind %d' % kind, at, word)
                 for word in (0, -1, widest + 1):
                     breaks('D2 off range, kind %d' % kind, end - 1, word)
+        elif kind == 8:
+            for at, other in ((1, 0), (2, 0), (2, 1)):
+                breaks('dimension twice in an ellipsoid', body + at, words[body + other])
+            for at in range(3):
+                breaks('dimension n', body + at, plan.n)
+                for word in (-65537, 65536):
+                    breaks('mean off range, kind 8', body + 3 + at, word)
+            for at in range(body + 6, end - 1):
+                for word in (16777217, -16777217):
+                    breaks('entry off range, kind 8', at, word)
+            for word in (0, -1, 4097):
+                breaks('D2 off range, kind 8', end - 1, word)
         else:
             for at in range(body, end):
                 for other in regions[turn:]:
@@ -2071,13 +2452,43 @@ def damage_ellipse(rng, words, at):
             del words[at + rng.randint(1, 3):]
 
 
+def damage_ellipsoid(rng, words, at):
+    """An ellipsoid, c11 at a place: its matrix bad, and perhaps a fault in its words or behind it, or of another kind or length."""
+    start = at - 10
+    if at + 7 > len(words):
+        return
+    style = rng.randrange(12)
+    if style < 8:
+        words[at:at + 6] = bad_ellipsoid(rng)
+    if style in (2, 3, 8):      # an entry off range: the matrix isn't judged
+        for _ in range(rng.choice((1, 1, 2))):
+            words[at + rng.randrange(6)] = rng.choice((-1, 1)) * rng.choice((16777217, 16777217, 2000000000))
+    elif style == 4:
+        words[at + 6] = rng.choice((0, -1, 4097))
+    elif style in (5, 6):       # the plan ends in the matrix or behind it
+        del words[at + rng.randint(0, 7):]
+    elif style == 7:            # a fault before the matrix
+        words[rng.choice((start + 4, start + 5, start + 6))] = rng.choice((-1, 0, 1, 2, 8, words[start + 4], words[start + 5]))
+    elif style == 9:
+        words[start] = rng.choice((3, 7, 9, 2, 10))
+    elif style == 10:           # another length, and a body to match
+        length = rng.choice((8, 12, 12, 14, 14, 26))
+        words[start + 3:start + 17] = [length] + (words[start + 4:start + 17] * 2)[:length]
+    elif style == 11:
+        words[at + rng.randrange(7)] = rng.choice((16777216, -16777216, 0, 1, -1, 4096))
+
+
 def damage_plan(rng, plan):
     """Words of a plan with one to three faults of any sort."""
     words = list(plan.words)
+    ellipsoids = [at for at, role in enumerate(plan.roles) if role == 'c11 of 3']
     ellipses = [at for at, role in enumerate(plan.roles) if role in ('c11', 'decimal c11')]
     for _ in range(rng.choice((1, 1, 1, 2, 3))):
         style = rng.randrange(21)
-        if style > 16 and ellipses:
+        if style > 16 and ellipsoids and (not ellipses or rng.random() < 0.5):
+            damage_ellipsoid(rng, words, rng.choice(ellipsoids))
+            break       # the places of the words behind may have shifted
+        elif style > 16 and ellipses:
             damage_ellipse(rng, words, rng.choice(ellipses))
         elif style < 4:       # a word of some role, each role as likely as the others
             here = sorted(set(plan.roles))
@@ -2220,6 +2631,60 @@ FIRST_JUDGED += [(2 ** 30, 0, 2 ** 30, d2, dx, dy) for d2, dx, dy in ((16, 0, 0)
 FIRST_JUDGED += [(2000000000, 0, 2000000000, 4096000, dx, dy) for dx, dy in ((90509, 0), (90510, 0), (0, -90509), (131071, -131071), (0, 0))]
 
 
+def ellipsoid_plan(entries, d2, dimensions=(0, 1, 2), means=(0, 0, 0), n=3, kind=8):
+    body = [*dimensions, *means, *entries, d2]
+    return [n, 1, kind, 0, -1, len(body), *body]
+
+
+def first_ellipsoids():
+    """Ellipsoids at the ends of the ranges, each bad matrix, a fault at each word, each end of the body, and events where much is told."""
+    most, plans, judged, counted = MOST_ENTRY, [], [], []
+    plans += [ellipsoid_plan(entries, d2) for entries, d2 in zip(GOOD_ELLIPSOIDS, itertools.cycle((1, 4096, 2)))]
+    plans += [ellipsoid_plan(entries, d2) for entries, d2 in zip(BAD_ELLIPSOIDS, itertools.cycle((1, 4096, 0, 4097)))]
+    plans += [ellipsoid_plan((1, 0, 0, 1, 0, 1), d2) for d2 in (0, -1, 4096, 4097, 4096000)]
+    whole = ellipsoid_plan((5, 1, 1, 5, 1, 5), 9)
+    for at, words in enumerate(((-1, 3), (0, 3, -1), (0, 1, 3), *[(-65537, 65536, -65536, 65535)] * 3, *[(-most - 1, most + 1)] * 6)):
+        plans += [whole[:6 + at] + [word] + whole[7 + at:] for word in words]
+    # A bad matrix with one of its words off range, with one missing, and with D2 missing.
+    for entries in ((-1, 0, 0, -1, 0, 1), (4, 6, 0, 8, 0, -1), (1, 0, 1, 1, 0, 1)):
+        plans += [ellipsoid_plan(entries[:at] + (-most - 1 if at % 2 else most + 1,) + entries[at + 1:], 1) for at in range(6)]
+        plans += [ellipsoid_plan(entries, 1)[:12 + left] for left in range(1, 7)]
+    plans += [whole[:end] for end in range(2, len(whole))]
+    plans += [[3, 1, 8, 0, -1, length, *(whole[6:] * 2)[:length]] for length in (0, 3, 8, 12, 14, 15, 26)]
+    plans += [whole + [0], whole[:4] + [0] + whole[5:], whole[:3] + [1] + whole[4:], [2, *whole[1:]]]
+    plans += [[4, *whole[1:8], 3, *whole[9:]], [8, *whole[1:6], 7, 0, 5, *whole[9:]]]
+    plans += [[*whole[:2], kind, *whole[3:]] for kind in (3, 7, 9, 2, 1, 5)]
+    # Entries, D2, an event less the means: a sphere of 2 to the 72, one whose rim goes over the whole scale, thin ones, tilted ones, and far away.
+    for entries, d2, steps in (
+            ((most, 0, 0, most, 0, most), 1, ((0, 0, 0), (4096, 0, 0), (4095, 0, 0), (4096, 1, 0), (0, -4096, 0), (0, 0, 4097), (2048, 2048, 2048))),
+            ((most, 0, 0, most, 0, most), 961, ((24576, 86016, 90112), (24576, 86016, 90113), (126976, 0, 0), (126977, 0, 0), (0, 0, -126976), (256, 0, 0))),
+            ((most, 0, 0, most, 0, most), 4096, ((131071, 131071, 131071), (131071, -131071, 131071), (0, 0, 131071), (131071, 131071, 0))),
+            ((most, -8388607, -8388608, most, -8388608, most), 4096, ((131071, 131071, 131071), (-131071, 131071, 131071), (0, 0, 0), (131071, 0, 0))),
+            ((most, most - 1, most - 2, most, most - 1, most), 4096, ((131071, 131071, 131071), (131071, -131071, 131071), (4096, 4096, 4096), (1, 0, -1))),
+            ((280, 236, 74, 472, 310, 553), 9, ((46, 20, 2), (46, 20, 3), (30, 60, 60), (-36, -18, 36), (18, -18, 9), (18, -18, -9), (0, 0, 0), (2, 20, 46))),
+            ((553, -310, 74, 472, -236, 280), 1, ((3, 6, 6), (12, 6, -12), (20, -20, 10), (-20, 20, -10), (20, 20, 10), (3, 6, 7), (6, 6, 3), (-12, 6, 12))),
+            ((441, 0, 0, 900, 0, 3600), 1, ((21, 0, 0), (0, 30, 0), (0, 0, -60), (7, 20, 40), (14, -10, 40), (14, 20, 20), (7, 20, 41), (40, 20, 7))),
+            ((100, 0, 0, 100, 0, 100), 1, ((6, 6, 6), (6, 8, 0), (0, 6, 8), (8, 0, 6), (-6, 6, 5), (10, 0, 0), (0, 10, 1)))):
+        counted.append((ellipsoid_plan(entries, d2), [part for step in steps for part in step]))
+        for step in steps:
+            means = [-65536 if part > 0 else 65535 if part < 0 else 7 for part in step]
+            judged.append((ellipsoid_plan(entries, d2, means=means), [mean + part for mean, part in zip(means, step)]))
+    return ([('ellipsoid by hand', ('check', words)) for words in plans]
+            + [('ellipsoid judged by hand', ('judge', *each)) for each in judged]
+            + [('ellipsoids counted by hand', ('count', *each)) for each in counted])
+
+
+def first_odd_rims():
+    """Ellipses, and events on their rims at which doubles say otherwise."""
+    rng = random.Random('odd rims')
+    for _ in range(4):
+        entries, d2, rim = odd_rim(rng)
+        yield 'odd rim', ('judge', [2, 1, 3, 0, -1, 8, 0, 1, 0, 0, *entries, d2], list(rim[0]))
+
+
+FIRST_QUESTIONS = [*first_ellipsoids(), *first_odd_rims()]
+
+
 def request(seed, number):
     """The question with this number: a label and what is asked.
 
@@ -2234,7 +2699,10 @@ def request(seed, number):
         *numbers, dx, dy = FIRST_JUDGED[number - len(FIRST_ELLIPSES)]
         x, y = [-65536 if step > 0 else 65535 if step < 0 else 7 for step in (dx, dy)]
         return 'judged by hand', ('judge', [2, 1, 7, 0, -1, 8, 0, 1, x, y, *numbers], [x + dx, y + dy])
-    turn, sizes = divmod(number - len(FIRST_ELLIPSES) - len(FIRST_JUDGED), len(long_outlines.TURNS))
+    before = len(FIRST_ELLIPSES) + len(FIRST_JUDGED)
+    if number < before + len(FIRST_QUESTIONS):
+        return FIRST_QUESTIONS[number - before]
+    turn, sizes = divmod(number - before - len(FIRST_QUESTIONS), len(long_outlines.TURNS))
     sizes = list(long_outlines.TURNS[sizes])
     if turn < len(FIRST_EDGES):
         return 'each number of vertices', ('judge', *long_outline_plan(rng, sizes, [FIRST_EDGES[turn](rng, size) for size in sizes]))

@@ -5,6 +5,7 @@ as long as its block lasts; the generator isn't touched by any.
 """
 
 import contextlib
+import itertools
 import re
 from fractions import Fraction
 
@@ -712,7 +713,7 @@ def c11_by_range(kind, body, at, n, earlier):
 
 def dimension_twice(kind, body, at, n, earlier):
     """A dimension twice in a step let pass."""
-    if (kind == gates.BOX and at % 3 == 0) or (kind in (gates.POLYGON, *gates.ELLIPSES) and at < 2):
+    if (kind == gates.BOX and at % 3 == 0) or (kind in (gates.POLYGON, *gates.ELLIPSES) and at < 2) or (kind == gates.ELLIPSOID and at < 3):
         return 0 <= body[at] < n
     return _ORIGINAL['body_word_good'](kind, body, at, n, earlier)
 
@@ -958,6 +959,277 @@ def matrix_of_kind_3_only(kind, body, length, n, earlier):
     return bad
 
 
+# ---------------------------------------------------------------- ellipsoids
+
+PAIRS = tuple(itertools.product(range(3), repeat=2))
+
+
+def weighed(weight):
+    """The rule with each product of two steps and a cofactor times a number, by its row and column."""
+    def sides(step, rows, d2):
+        left = sum(weight(row, column) * step[row] * gates.cofactor(rows, row, column) * step[column] for row, column in PAIRS)
+        return left, d2 * gates.determinant(rows)
+    return sides
+
+
+ellipsoid_sides = weighed(lambda row, column: 1)
+
+
+def turned_at(one, other):
+    """A cofactor with the other sign."""
+    return weighed(lambda row, column: -1 if {row, column} == {one, other} else 1)
+
+
+def once_at(*pairs):
+    """Products of two different steps counted once."""
+    return weighed(lambda row, column: 0 if (column, row) in pairs else 1)
+
+
+def with_sides(change):
+    """Both sides changed alike."""
+    return lambda step, rows, d2: tuple(change(side) for side in ellipsoid_sides(step, rows, d2))
+
+
+def with_cofactors(change):
+    def sides(step, rows, d2):
+        left = sum(step[row] * change(gates.cofactor(rows, row, column)) * step[column] for row, column in PAIRS)
+        return left, d2 * gates.determinant(rows)
+    return sides
+
+
+def squares_in_32_bits(step, rows, d2):
+    left = sum(in_32_bits(step[row] * step[column]) * gates.cofactor(rows, row, column) for row, column in PAIRS)
+    return left, d2 * gates.determinant(rows)
+
+
+def only_left(change):
+    def sides(step, rows, d2):
+        left, right = ellipsoid_sides(step, rows, d2)
+        return change(left), right
+    return sides
+
+
+def only_right(change):
+    def sides(step, rows, d2):
+        left, right = ellipsoid_sides(step, rows, d2)
+        return left, change(right)
+    return sides
+
+
+def determinant_in_64_bits(step, rows, d2):
+    return ellipsoid_sides(step, rows, d2)[0], d2 * in_64_bits(gates.determinant(rows))
+
+
+def held_at_64_bits(step, rows, d2):
+    """Each sum that passes 64 bits held at their end."""
+    def held(value):
+        return max(-2 ** 63, min(2 ** 63 - 1, value))
+    left = 0
+    for row, column in PAIRS:
+        left = held(left + held(step[row] * gates.cofactor(rows, row, column) * step[column]))
+    return left, held(d2 * held(gates.determinant(rows)))
+
+
+def ellipsoid_in_doubles(step, rows, d2):
+    return ellipsoid_sides([float(part) for part in step], [[float(entry) for entry in entries] for entries in rows], float(d2))
+
+
+def divided_in_doubles(step, rows, d2):
+    """000's rule with its division, in doubles."""
+    left, right = ellipsoid_in_doubles(step, rows, 1.0)
+    return left / right if right else float('inf'), float(d2)
+
+
+def halves(bits, low):
+    """Numbers compared by what is above so many bits, then by another reading of those bits."""
+    return with_sides(lambda side: (side >> bits, low(side)))
+
+
+def not_inverted(step, rows, d2):
+    """The matrix itself where its inverse belongs."""
+    return sum(step[row] * rows[row][column] * step[column] for row, column in PAIRS), d2
+
+
+def not_multiplied(step, rows, d2):
+    return ellipsoid_sides(step, rows, d2)[0], d2
+
+
+def d2_left_out(step, rows, d2):
+    return ellipsoid_sides(step, rows, 1)
+
+
+def upper_left_determinant(step, rows, d2):
+    return ellipsoid_sides(step, rows, d2)[0], d2 * (rows[0][0] * rows[1][1] - rows[0][1] ** 2)
+
+
+def third_step_left_out(step, rows, d2):
+    return ellipsoid_sides([step[0], step[1], 0], rows, d2)
+
+
+def ellipsoid_holding(sides, inside=lambda left, right: left <= right):
+    def answer(means, rows, d2, point):
+        return inside(*sides([value - mean for value, mean in zip(point, means)], rows, d2))
+    return {'ellipsoid_holds': answer}
+
+
+def ellipsoid_rim(sides):
+    """On the rim where two sides reckoned otherwise are equal; what is outside stays so."""
+    def answer(means, rows, d2, point):
+        if _ORIGINAL['ellipsoid_position'](means, rows, d2, point) == gates.OUTSIDE:
+            return gates.OUTSIDE
+        left, right = sides([value - mean for value, mean in zip(point, means)], rows, d2)
+        return gates.ON_OUTLINE if left == right else gates.INSIDE
+    return {'ellipsoid_position': answer}
+
+
+def by_pairs(means, rows, d2, point):
+    """Inside where the ellipse of each pair of dimensions says so."""
+    return all(gates.ellipse_holds(means[a], means[b], rows[a][a], rows[a][b], rows[b][b], d2, point[a], point[b]) for a, b in ((0, 1), (0, 2), (1, 2)))
+
+
+def tilted_rim_left_out(means, rows, d2, point):
+    found = _ORIGINAL['ellipsoid_position'](means, rows, d2, point)
+    upright = all(rows[a][b] == 0 for a, b in PAIRS if a != b)
+    return found if upright or found != gates.ON_OUTLINE else gates.INSIDE
+
+
+def other_body(change):
+    """Means, matrix, D2 and point of a step taken otherwise from its body and the event."""
+    return {'ellipsoid_of': lambda body, event: change(body, event, *_ORIGINAL['ellipsoid_of'](body, event))}
+
+
+def other_words(change):
+    """Another body written for an `ellip3` line."""
+    def steps(head, table_gates):
+        numbers, found = _ORIGINAL['region_steps'](head, table_gates)
+        return numbers, [(kind, parent, change(body) if kind == gates.ELLIPSOID else body, waits) for kind, parent, body, waits in found]
+    return {'region_steps': steps}
+
+
+def leading(rows):
+    return [gates.determinant([entries[:size] for entries in rows[:size]]) for size in (1, 2, 3)]
+
+
+def good_where(rule):
+    """A matrix judged otherwise, by c11, the upper left and the whole determinant, ashore and aboard."""
+    return {'ellipsoid_matrix_is_good': lambda rows: rule(*leading(rows))}
+
+
+def good_by_lower_right(rows):
+    return rows[0][0] > 0 and rows[1][1] * rows[2][2] > rows[1][2] ** 2 and gates.determinant(rows) > 0
+
+
+def good_by_pairs(rows):
+    """Each pair of dimensions by itself, and not the three together."""
+    return all(gates.matrix_is_good(rows[a][a], rows[a][b], rows[b][b]) for a, b in ((0, 1), (0, 2), (1, 2)))
+
+
+def good_in_doubles(rows):
+    return all(value > 0 for value in leading([[float(entry) for entry in entries] for entries in rows]))
+
+
+def good_by_diagonal(rows):
+    return all(rows[at][at] > 0 for at in range(3)) and gates.determinant(rows) > 0
+
+
+def ellipsoid_words(answer):
+    """Another answer where the first bad word of an ellipsoid's body is looked for."""
+    def bad_word(kind, body, length, n, earlier):
+        bad = _ORIGINAL['bad_body_word'](kind, body, length, n, earlier)
+        if kind != gates.ELLIPSOID:
+            return bad
+
+        def plain(beginning):
+            """The first word from one on that is bad by itself or missing."""
+            return next((at for at in range(beginning, length) if at >= len(body) or not gates.body_word_good(kind, body, at, n, earlier)), None)
+
+        matrix_bad = bad == 6 and len(body) >= 12 and plain(0) not in range(12)
+        return answer(body, bad, matrix_bad, plain)
+    return {'bad_body_word': bad_word}
+
+
+def matrix_at_minor(body, bad, matrix_bad, plain):
+    """A bad matrix placed at the last entry of the first determinant that isn't above 0."""
+    if not matrix_bad:
+        return bad
+    first, second, _ = leading(gates.symmetric(*body[6:12]))
+    return 6 if first <= 0 else 9 if second <= 0 else 11
+
+
+def after_d2(body, bad, matrix_bad, plain):
+    """The matrix judged when D2 is there and in range too."""
+    return plain(12) or bad if matrix_bad else bad
+
+
+def minor_at_c22(body, bad, matrix_bad, plain):
+    """c11 and the upper left determinant judged as soon as c22 is there."""
+    if bad in (10, 11) and len(body) >= 10:
+        first, second = body[6], body[6] * body[9] - body[7] ** 2
+        return 6 if first <= 0 or second <= 0 else bad
+    return bad
+
+
+def c11_at_once(body, bad, matrix_bad, plain):
+    return 6 if bad in range(7, 12) and body[6] <= 0 else bad
+
+
+def of_kind_8(places, good):
+    """Some words of an ellipsoid's body judged otherwise."""
+    def answer(kind, body, at, n, earlier):
+        if kind == gates.ELLIPSOID and at in places:
+            return good(body, at, n)
+        return _ORIGINAL['body_word_good'](kind, body, at, n, earlier)
+    return {'body_word_good': answer}
+
+
+def range_of_kind_8(places, low, high):
+    return of_kind_8(places, lambda body, at, n: low <= body[at] <= high)
+
+
+def length_of_kind_8(length):
+    """One more length taken; a D2 that isn't there is 1."""
+    def of(body, event):
+        return _ORIGINAL['ellipsoid_of']((body + [1])[:13], event)
+
+    def good(kind, body, at, n, earlier):
+        return True if kind == gates.ELLIPSOID and at > 12 else _ORIGINAL['body_word_good'](kind, body, at, n, earlier)
+
+    return {'length_good': lambda kind, given: (kind == gates.ELLIPSOID and given == length) or _ORIGINAL['length_good'](kind, given),
+            'ellipsoid_of': of, 'body_word_good': good}
+
+
+def range_of_ellip3(places, low, high):
+    """Some fields of an `ellip3` line, from its first mean on, asked for another range."""
+    def good(gate, head):
+        if gate.kind != b'ellip3':
+            return gates.ranges_good(gate, head)
+        limits = [(low, high) if at in places else usual for at, usual in enumerate(gates.ELLIPSOID_RANGES)]
+        return all(gates.within(gates.number_value(field), limit) for field, limit in zip(gate.ellipsoid, limits))
+    return {'LINE_CHECKS': _with(gates.LINE_CHECKS, 8, good)}
+
+
+def third_dimension_free(other):
+    """The third dimension of a line not compared with one of the others."""
+    def good(gate, head):
+        if gate.kind == b'ellip3' and gate.dimensions[2] == gate.dimensions[other]:
+            return gate.dimensions[0] != gate.dimensions[1] and all(name in head for name in gate.dimensions)
+        return gates.dimensions_good(gate, head)
+    return {'LINE_CHECKS': _with(gates.LINE_CHECKS, 9, good)}
+
+
+def fields_of_ellip3(count, change):
+    """One more number of fields taken behind the parent."""
+    def read(fields):
+        if fields[0] == b'ellip3' and len(fields) == 3 + count:
+            fields = fields[:3] + change(fields[3:])
+        return _ORIGINAL['read_gate'](fields)
+    return {'read_gate': read}
+
+
+def matrix_before_dimension(gate, head):
+    return gates.dimensions_good(gate, head) if gate.kind != b'ellip3' else gates.matrix_good(gate, head)
+
+
 PLANTS = {
     'even-odd': {'polygon_holds': even_odd},
     'top-included': {'box_holds': top_included},
@@ -1029,7 +1301,7 @@ PLANTS = {
     'not-takes-over-outline': {'outline_bits': taken_over(operands((gates.NOT,)))},
     'plain-operand-takes-over': {'outline_bits': taken_over(plain_operands)},
     'box-takes-over-outline': {'outline_bits': taken_over(parent_of((gates.BOX,)))},
-    'shape-takes-over-outline': {'outline_bits': taken_over(parent_of((gates.POLYGON, *gates.ELLIPSES)))},
+    'shape-takes-over-outline': {'outline_bits': taken_over(parent_of((gates.POLYGON, *gates.ELLIPSES, gates.ELLIPSOID)))},
     'combination-takes-parents': {'outline_bits': taken_over(parent_of(gates.COMBINATIONS))},
     'box-with-outline': {'outline_bits': box_with_outline},
     'outline-by-steps': {'outline_bits': outline_by_steps},
@@ -1129,8 +1401,8 @@ PLANTS = {
     'whole-line-to-kind-7': {'region_steps': every_line_to_kind_7},
     'whole-values-to-kind-3': {'region_steps': whole_values_to_kind_3},
     'points-only-to-thousandths': {'region_steps': points_left_whole},
-    'kind-7-unknown': {'STEP_KINDS': range(1, 7)},
-    'kind-8-known': {'STEP_KINDS': range(1, 9), 'ELLIPSES': (3, 7, 8)},
+    'kind-7-unknown': {'STEP_KINDS': (1, 2, 3, 4, 5, 6, 8)},
+    'kind-9-known': {'STEP_KINDS': range(1, 10), 'ELLIPSES': (3, 7, 9)},
     'kind-7-entries-of-kind-3': range_aboard(entry=gates.ENTRY_RANGE),
     'kind-7-d2-of-kind-3': range_aboard(d2=gates.D2_RANGE),
     'kind-7-entries-of-32-bits': range_aboard(entry=(-2 ** 31, 2 ** 31 - 1)),
@@ -1154,6 +1426,124 @@ PLANTS = {
     'decimal-rim-in-doubles': decimal_rim(decimal_sides_in_doubles),
     'decimal-rim-by-division': decimal_rim(right_divided),
     'decimal-rim-as-kind-3': decimal_rim(not_scaled),
+    # Ellipsoids: lines.
+    'ellip3-unknown': {'KINDS': gates.KINDS[:-1]},
+    'ellip3-12-fields-taken': fields_of_ellip3(12, lambda rest: rest + [b'1']),
+    'ellip3-14-fields-taken': fields_of_ellip3(14, lambda rest: rest[:13]),
+    'ellip3-nine-entries-taken': fields_of_ellip3(16, lambda rest: rest[:9] + rest[10:12] + rest[14:]),
+    'ellip3-decimals-in-means': decimals_anywhere(lambda gate: gate.ellipsoid[:3]),
+    'ellip3-decimals-in-entries': decimals_anywhere(lambda gate: gate.ellipsoid[3:9]),
+    'ellip3-decimals-in-d2': decimals_anywhere(lambda gate: gate.ellipsoid[9:]),
+    'ellip3-entries-of-decimals': range_of_ellip3(range(3, 9), -2000000, 2000000),
+    'ellip3-entry-one-more': range_of_ellip3(range(3, 9), -16777217, 16777217),
+    'ellip3-entry-one-less': range_of_ellip3(range(3, 9), -16777215, 16777215),
+    'ellip3-c33-without-range': range_of_ellip3([8], -2 ** 40, 2 ** 40),
+    'ellip3-third-mean-without-range': range_of_ellip3([2], -2 ** 40, 2 ** 40),
+    'ellip3-d2-from-zero': range_of_ellip3([9], 0, 4096),
+    'ellip3-d2-one-more': range_of_ellip3([9], 1, 4097),
+    'ellip3-d2-one-less': range_of_ellip3([9], 1, 4095),
+    'ellip3-third-as-first': third_dimension_free(0),
+    'ellip3-third-as-second': third_dimension_free(1),
+    'ellip3-matrix-before-dimension': {'LINE_CHECKS': _with(_with(gates.LINE_CHECKS, 9, matrix_before_dimension), 11, (
+        lambda gate, head: gates.dimensions_good(gate, head) if gate.kind == b'ellip3' else gates.matrix_good(gate, head)))},
+    'ellip3-matrix-not-judged': {'LINE_CHECKS': _with(gates.LINE_CHECKS, 11, lambda gate, head: gate.kind == b'ellip3' or gates.matrix_good(gate, head))},
+    # Ellipsoids: a matrix judged otherwise, ashore and aboard.
+    'ellip3-c11-not-asked': good_where(lambda first, second, third: second > 0 and third > 0),
+    'ellip3-minor-not-asked': good_where(lambda first, second, third: first > 0 and third > 0),
+    'ellip3-whole-not-asked': good_where(lambda first, second, third: first > 0 and second > 0),
+    'ellip3-whole-from-zero': good_where(lambda first, second, third: first > 0 and second > 0 and third >= 0),
+    'ellip3-whole-other-than-zero': good_where(lambda first, second, third: first > 0 and second > 0 and third != 0),
+    'ellip3-whole-from-two': good_where(lambda first, second, third: first > 0 and second > 0 and third > 1),
+    'ellip3-lower-right-asked': {'ellipsoid_matrix_is_good': good_by_lower_right},
+    'ellip3-pairs-asked': {'ellipsoid_matrix_is_good': good_by_pairs},
+    'ellip3-diagonal-asked': {'ellipsoid_matrix_is_good': good_by_diagonal},
+    'ellip3-matrix-in-64-bits': good_where(lambda first, second, third: first > 0 and second > 0 and in_64_bits(third) > 0),
+    'ellip3-matrix-in-32-bits': good_where(lambda first, second, third: first > 0 and in_32_bits(second) > 0 and third > 0),
+    'ellip3-matrix-in-doubles': {'ellipsoid_matrix_is_good': good_in_doubles},
+    # Ellipsoids: words.
+    'ellip3-c13-c22-exchanged': {'symmetric': lambda c11, c12, c22, c13, c23, c33: _ORIGINAL['symmetric'](c11, c12, c13, c22, c23, c33)},
+    'ellip3-c13-c23-exchanged': {'symmetric': lambda c11, c12, c23, c22, c13, c33: _ORIGINAL['symmetric'](c11, c12, c13, c22, c23, c33)},
+    'ellip3-c13-c22-exchanged-in-words': other_words(lambda body: body[:8] + [body[9], body[8]] + body[10:]),
+    'ellip3-dimensions-sorted-in-words': other_words(lambda body: sorted(body[:3]) + body[3:]),
+    'ellip3-means-behind-matrix-in-words': other_words(lambda body: body[:3] + body[6:12] + body[3:6] + body[12:]),
+    'ellip3-third-mean-from-second-in-words': other_words(lambda body: body[:5] + [body[4]] + body[6:]),
+    'ellip3-kind-8-unknown': {'STEP_KINDS': range(1, 8)},
+    'ellip3-length-12': length_of_kind_8(12),
+    'ellip3-length-14': length_of_kind_8(14),
+    'ellip3-matrix-at-word-4': {'ELLIPSOID_MATRIX_AT': 4},
+    'ellip3-matrix-at-c12': {'ELLIPSOID_MATRIX_AT': 7},
+    'ellip3-matrix-at-c33': {'ELLIPSOID_MATRIX_AT': 11},
+    'ellip3-matrix-at-d2': {'ELLIPSOID_MATRIX_AT': 12},
+    'ellip3-matrix-at-bad-minor': ellipsoid_words(matrix_at_minor),
+    'ellip3-matrix-after-d2': ellipsoid_words(after_d2),
+    'ellip3-minor-judged-at-c22': ellipsoid_words(minor_at_c22),
+    'ellip3-c11-judged-at-once': ellipsoid_words(c11_at_once),
+    'ellip3-matrix-not-judged-aboard': ellipsoid_words(lambda body, bad, matrix_bad, plain: plain(12) if matrix_bad else bad),
+    'ellip3-third-as-first-aboard': of_kind_8([2], lambda body, at, n: 0 <= body[2] < n and body[2] != body[1]),
+    'ellip3-third-as-second-aboard': of_kind_8([2], lambda body, at, n: 0 <= body[2] < n and body[2] != body[0]),
+    'ellip3-entries-of-kind-7-aboard': range_of_kind_8(range(6, 12), -2000000000, 2000000000),
+    'ellip3-entry-one-more-aboard': range_of_kind_8(range(6, 12), -16777217, 16777217),
+    'ellip3-entry-one-less-aboard': range_of_kind_8(range(6, 12), -16777215, 16777215),
+    'ellip3-c13-without-range-aboard': range_of_kind_8([8], -2 ** 31, 2 ** 31),
+    'ellip3-c33-without-range-aboard': range_of_kind_8([11], -2 ** 31, 2 ** 31),
+    'ellip3-third-mean-without-range-aboard': range_of_kind_8([5], -2 ** 31, 2 ** 31),
+    'ellip3-d2-from-zero-aboard': range_of_kind_8([12], 0, 4096),
+    'ellip3-d2-one-more-aboard': range_of_kind_8([12], 1, 4097),
+    'ellip3-d2-one-less-aboard': range_of_kind_8([12], 1, 4095),
+    'ellip3-d2-of-kind-7-aboard': range_of_kind_8([12], 1, 4096000),
+    # Ellipsoids: members.
+    'ellip3-rim-excluded': ellipsoid_holding(ellipsoid_sides, lambda left, right: left < right),
+    'ellip3-third-mean-from-second': other_body(lambda body, event, means, rows, d2, point: ([*means[:2], means[1]], rows, d2, point)),
+    'ellip3-second-mean-from-first': other_body(lambda body, event, means, rows, d2, point: ([means[0], means[0], means[2]], rows, d2, point)),
+    'ellip3-z-from-y': other_body(lambda body, event, means, rows, d2, point: (means, rows, d2, [*point[:2], point[1]])),
+    'ellip3-first-three-values': other_body(lambda body, event, means, rows, d2, point: (means, rows, d2, event[:3])),
+    'ellip3-values-in-head-order': other_body(lambda body, event, means, rows, d2, point: (means, rows, d2, [event[at] for at in sorted(body[:3])])),
+    'ellip3-means-left-out': other_body(lambda body, event, means, rows, d2, point: ([0, 0, 0], rows, d2, point)),
+    'ellip3-c13-c22-exchanged-in-members': other_body(lambda body, event, means, rows, d2, point: (
+        means, gates.symmetric(body[6], body[7], body[9], body[8], body[10], body[11]), d2, point)),
+    'ellip3-d2-from-c33': other_body(lambda body, event, means, rows, d2, point: (means, rows, body[11], point)),
+    'ellip3-third-step-left-out': ellipsoid_holding(third_step_left_out),
+    'ellip3-by-pairs': {'ellipsoid_holds': by_pairs},
+    'ellip3-cofactor-12-turned': ellipsoid_holding(turned_at(0, 1)),
+    'ellip3-cofactor-13-turned': ellipsoid_holding(turned_at(0, 2)),
+    'ellip3-cofactor-23-turned': ellipsoid_holding(turned_at(1, 2)),
+    'ellip3-minors-for-cofactors': ellipsoid_holding(weighed(lambda row, column: (-1) ** (row + column))),
+    'ellip3-cross-terms-once': ellipsoid_holding(once_at((0, 1), (0, 2), (1, 2))),
+    'ellip3-cross-term-12-once': ellipsoid_holding(once_at((0, 1))),
+    'ellip3-cross-term-13-once': ellipsoid_holding(once_at((0, 2))),
+    'ellip3-cross-term-23-once': ellipsoid_holding(once_at((1, 2))),
+    'ellip3-cross-terms-left-out': ellipsoid_holding(weighed(lambda row, column: int(row == column))),
+    'ellip3-not-inverted': ellipsoid_holding(not_inverted),
+    'ellip3-determinant-left-out': ellipsoid_holding(not_multiplied),
+    'ellip3-d2-left-out': ellipsoid_holding(d2_left_out),
+    'ellip3-upper-left-determinant': ellipsoid_holding(upper_left_determinant),
+    'ellip3-in-64-bits': ellipsoid_holding(with_sides(in_64_bits)),
+    'ellip3-in-u64': ellipsoid_holding(with_sides(lambda side: side % 2 ** 64)),
+    'ellip3-left-in-64-bits': ellipsoid_holding(only_left(in_64_bits)),
+    'ellip3-right-in-64-bits': ellipsoid_holding(only_right(in_64_bits)),
+    'ellip3-determinant-in-64-bits': ellipsoid_holding(determinant_in_64_bits),
+    'ellip3-held-at-64-bits': ellipsoid_holding(held_at_64_bits),
+    'ellip3-in-80-bits': ellipsoid_holding(with_sides(lambda side: side % 2 ** 80)),
+    'ellip3-cofactors-in-32-bits': ellipsoid_holding(with_cofactors(in_32_bits)),
+    'ellip3-squares-in-32-bits': ellipsoid_holding(squares_in_32_bits),
+    'ellip3-in-doubles': ellipsoid_holding(ellipsoid_in_doubles),
+    'ellip3-divided-in-doubles': ellipsoid_holding(divided_in_doubles),
+    'ellip3-high-halves-only': ellipsoid_holding(halves(64, lambda side: 0)),
+    'ellip3-above-32-bits-only': ellipsoid_holding(halves(32, lambda side: 0)),
+    'ellip3-low-halves-signed': ellipsoid_holding(halves(64, in_64_bits)),
+    'ellip3-low-32-bits-signed': ellipsoid_holding(halves(32, in_32_bits)),
+    # Ellipsoids: outlines.
+    'ellip3-rim-said-inside': {'ellipsoid_position': never_on_outline(gates.ellipsoid_position)},
+    'ellip3-tilted-rim-said-inside': {'ellipsoid_position': tilted_rim_left_out},
+    'ellip3-rim-in-64-bits': ellipsoid_rim(with_sides(in_64_bits)),
+    'ellip3-rim-in-doubles': ellipsoid_rim(ellipsoid_in_doubles),
+    'ellip3-rim-by-high-halves': ellipsoid_rim(with_sides(lambda side: side >> 64)),
+    'ellip3-rim-above-32-bits': ellipsoid_rim(with_sides(lambda side: side >> 32)),
+    'ellip3-rim-with-cofactor-12-turned': ellipsoid_rim(turned_at(0, 1)),
+    'ellip3-rim-with-cofactor-13-turned': ellipsoid_rim(turned_at(0, 2)),
+    'ellip3-rim-with-cofactor-23-turned': ellipsoid_rim(turned_at(1, 2)),
+    'ellip3-rim-without-third-step': ellipsoid_rim(third_step_left_out),
+    'ellip3-sets-no-outline': {'on_outline': lambda kind, body, event: kind != gates.ELLIPSOID and _ORIGINAL['on_outline'](kind, body, event)},
 }
 
 

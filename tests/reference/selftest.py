@@ -4,13 +4,14 @@
     tests/reference/selftest.py [--seed S] [--tables N]
 
 First come the examples that 01 prints and small cases at each of its rules, and at those of
-02 a on outlines and 02 b on decimals; then, for random tables, the plan against the lines, other
-orders of lines, sums of quadrants, and other ways of reckoning the same thing.  The last line is
-"N passed, M failed".
+02 a on outlines, 02 b on decimals and 02 d on ellipsoids; then, for random tables, the plan against
+the lines, other orders of lines, sums of quadrants, and other ways of reckoning the same thing.  The
+last line is "N passed, M failed".
 """
 
 import argparse
 import collections
+import itertools
 import os
 import random
 import sys
@@ -168,7 +169,7 @@ def table_text():
 
     refused('tab after the head', tabs('dims A '), 3, 1)
     for line in ('rect X - A 0 1 ', 'poly X - A B 0 0 1 0 1 1 ', 'ellip X - A B 0 0 1 0 1 1 ',
-                 'quad X - 1 A 1 0 L -1 H 0 ', 'quad X - 2 A 1 0 B 1 0 L * * ', 'not X - R '):
+                 'ellip3 X - A B C 0 0 0 1 0 0 1 0 1 1 ', 'quad X - 1 A 1 0 L -1 H 0 ', 'quad X - 2 A 1 0 B 1 0 L * * ', 'not X - R '):
         line_fault('tab after %s' % line, line, 5, before=['rect R - A 0 1'])
     for line in ('and X - R ', 'or X - R R ', 'and X -' + ' R' * 62 + ' '):
         line_fault('tab after %s' % line[:12], line, 6, before=['rect R - A 0 1'])
@@ -210,7 +211,7 @@ def table_text():
     line_fault('matrix after dimension', 'ellip X - A A 0 0 4 6 9 1', 9)
     line_fault('range of D2 before the matrix', 'ellip X - A B 0 0 4 6 9 0', 8)
     line_fault('not rising before no tiling', 'quad X - 1 A 2 5 5 L 0', 10)
-    for kind in ('ellip3', 'tope', 'tree', 'apart', 'Rect', '', 'rec', 'dims'):
+    for kind in ('ellip2', 'ellip4', 'Ellip3', 'ellip33', 'tope', 'tree', 'apart', 'Rect', '', 'rec', 'dims'):
         line_fault('kind %r' % kind, '%s X - A 0 1' % kind, 4)
 
     for dimension in ('', '9', '*', 'C', 'AA', 'a', '-'):
@@ -670,6 +671,132 @@ def words_of(line):
     return {name.encode() for name in line.split()}
 
 
+# ---------------------------------------------------------------- 02 d: ellipsoids
+
+def ellipsoids():
+    def ellip3(fields, dimensions='A B C'):
+        return tabs('dims A B C', 'ellip3 E - %s %s' % (dimensions, fields))
+
+    accepted('the fields in order', tabs('dims A B C D', 'rect R - A 0 1', 'ellip3 E R D A C 7 -8 9 280 236 74 472 310 553 4'),
+             [4, 2, 1, 0, -1, 3, 0, 0, 1, 8, 1, 0, 13, 3, 0, 2, 7, -8, 9, 280, 236, 74, 472, 310, 553, 4])
+    accepted('the ends of the ranges', ellip3('-65536 65535 -65536 16777216 -16777215 0 16777216 0 16777216 4096'),
+             [3, 1, 8, 0, -1, 13, 0, 1, 2, -65536, 65535, -65536, 16777216, -16777215, 0, 16777216, 0, 16777216, 4096])
+    for behind, number in generate.ELLIP3_LINES:
+        table = tabs('dims A B C D', 'ellip3 E - ' + behind)
+        refused('ellip3 ' + behind, table, number, 2) if number else accepted('ellip3 ' + behind, table)
+    good = 'A B C 0 0 0 5 1 1 5 1 5 9'.split()
+    for at in range(3, 13):
+        for field in generate.BAD_NUMBERS + ['1.5', '0.0', '-0.5', '1134.500']:
+            fields = [name.encode() for name in good]
+            fields[at] = field if isinstance(field, bytes) else field.encode()
+            line_fault('%.40r as field %d' % (fields[at], at), b'\t'.join([b'ellip3', b'E', b'-', *fields]), 7, head='dims A B C')
+        low, high = (-65536, 65535) if at < 6 else (-16777216, 16777216) if at < 12 else (1, 4096)
+        for number in (low - 1, high + 1, 10 ** 40, -10 ** 40, 2 ** 32 + 1):
+            line_fault('%d as field %d' % (number, at), 'ellip3 E - ' + ' '.join([*good[:at], str(number), *good[at + 1:]]), 8, head='dims A B C')
+    for count in range(19):
+        fields = ' '.join((good + ['1'] * 6)[:count])
+        if count != 13:
+            line_fault('%d fields' % count, ('ellip3 E - ' + fields).strip(), 5, head='dims A B C')
+    line_fault('kind before shape', 'ellip4 E - A B C', 4, head='dims A B C')
+    line_fault('shape before name', 'ellip3 9 - A B C 0 0 0 1 0 0 1 0 1', 5, head='dims A B C')
+    line_fault('name before form', 'ellip3 9 - A B C 0 0 0 1.5 0 0 1 0 1 1', 6, head='dims A B C')
+    line_fault('parent before form', 'ellip3 E !R A B C 0 0 0 1.5 0 0 1 0 1 1', 6, head='dims A B C')
+    line_fault('form before range', 'ellip3 E - A B C 65536 0 0 1.5 0 0 1 0 1 1', 7, head='dims A B C')
+    line_fault('range before dimension', 'ellip3 E - A A C 65536 0 0 1 0 0 1 0 1 1', 8, head='dims A B C')
+    line_fault('dimension before matrix', 'ellip3 E - A B A 0 0 0 0 0 0 0 0 0 1', 9, head='dims A B C')
+    line_fault('no third dimension in the head', 'ellip3 E - A B C 0 0 0 1 0 0 1 0 1 1', 9)
+    refused('a dead parent', tabs('dims A B C', 'ellip3 E N A B C 0 0 0 1 0 0 1 0 1 1'), 15, 2)
+    refused('a bad matrix before a dead parent', tabs('dims A B C', 'ellip3 E N A B C 0 0 0 1 0 0 1 0 0 1'), 11, 2)
+
+    # Of c11, the upper left determinant and the whole one, those above 0.
+    for matrices, wanted in ((generate.C11_BAD, (False, True, True)), (generate.MINOR_BAD, (True, False, True)), (generate.WHOLE_BAD, (True, True, False)),
+                             (generate.GOOD_ELLIPSOIDS, (True, True, True)), (generate.MORE_BAD, None)):
+        for c11, c12, c13, c22, c23, c33 in matrices:
+            whole = c11 * (c22 * c33 - c23 ** 2) - c12 * (c12 * c33 - c13 * c23) + c13 * (c12 * c23 - c13 * c22)
+            above = c11 > 0, c11 * c22 - c12 ** 2 > 0, whole > 0
+            label = 'matrix %d %d %d %d %d %d' % (c11, c12, c13, c22, c23, c33)
+            check(label, sum(above) < 2 if wanted is None else above == wanted, True)
+            table = ellip3('0 0 0 %d %d %d %d %d %d 1' % (c11, c12, c13, c22, c23, c33))
+            accepted(label, table) if all(above) else refused(label, table, 11, 2)
+
+    # Axes of 21, 30 and 60; a third of one and two thirds of the others are on the rim.
+    upright = ellip3('0 0 0 441 0 0 900 0 3600 1')
+    positions('upright', upright, 'E', on='21 0 0, -21 0 0, 0 30 0, 0 -30 0, 0 0 60, 0 0 -60, 7 20 40, -7 20 -40, 14 10 40, 14 -20 20',
+              inside='0 0 0, 20 0 0, 0 29 0, 0 0 59, 7 20 39, 7 19 40, 6 20 40, 13 10 40',
+              outside='22 0 0, 0 31 0, 0 0 61, 7 20 41, 7 21 40, 8 20 40, 20 7 40, 21 0 1')
+    positions('four times as wide', ellip3('100 -200 300 441 0 0 900 0 3600 16'), 'E',
+              on='184 -200 300, 100 -320 300, 100 -200 540, 128 -120 460, 72 -280 140',
+              inside='183 -200 300, 128 -120 459', outside='185 -200 300, 128 -119 460')
+    # The dimensions of the line, not of the head.
+    positions('in another order', ellip3('0 0 0 441 0 0 900 0 3600 1', 'C A B'), 'E', on='30 0 0, 0 60 0, 0 0 21, 20 40 7', outside='0 0 22, 7 20 40, 0 61 0')
+    # A sphere of 10: (6, 6, 6) is inside in each pair of dimensions.
+    positions('a sphere', ellip3('0 0 0 100 0 0 100 0 100 1'), 'E', on='10 0 0, 6 8 0, 6 0 8, 0 -6 8', inside='5 5 5, 6 6 5', outside='6 6 6, 10 0 1, 7 8 0')
+
+    # Axes along (1, 2, 2), (2, 1, -2), (2, -2, 1), of 10, 6 and 3 times these; D2 of 9 has (1, 2, 2) times them, the sum (46, 20, 2).
+    # Elsewhere the sums of x + 2y + 2z over 90, 2x + y - 2z over 54 and 2x - 2y + z over 27 are squared and added.
+    turned = '280 236 74 472 310 553 '
+    positions('turned', ellip3('0 0 0 ' + turned + '1'), 'E', on='10 20 20, -10 -20 -20, 12 6 -12, -12 -6 12, 6 -6 3, -6 6 -3',
+              inside='0 0 0, 9 18 18, 10 4 -10, 4 -4 2, 6 6 3, 6 -6 -3, 3 -6 6', outside='11 20 20, 10 20 21, -10 20 20, 12 6 12, 8 -8 4, 6 -6 4, 7 -6 3')
+    positions('turned and wider', ellip3('5 -5 50 ' + turned + '9'), 'E', on='51 15 52, -41 -25 48, 35 55 110, 41 13 14, 23 -23 59',
+              inside='50 14 52, 5 -5 50, 51 16 52, 7 15 96', outside='51 15 53, 52 15 52, 51 -25 52')
+    # The same with 3, 6, 10: c12 and c23 below 0, c13 above.
+    positions('turned the other way', ellip3('0 0 0 553 -310 74 472 -236 280 1'), 'E', on='3 6 6, 12 6 -12, 20 -20 10, -20 20 -10',
+              inside='0 0 0, 19 -19 9', outside='20 20 10, 20 -20 -10, 10 -20 20, 3 6 7, 12 6 12')
+    # Equal variances and covariances: adj is 3 on its diagonal and -1 beside it, the determinant is 4; (1, 1, 1) has 3, (1, -1, 0) has 8.
+    equal = '0 0 0 2 1 1 2 1 2 '
+    positions('equal covariances', ellip3(equal + '2'), 'E', on='1 -1 0, 0 1 -1, -1 0 1', inside='1 1 1, 1 0 0, 1 1 0', outside='2 2 2, 2 0 0, 1 -1 1, 1 1 -1')
+    positions('equal covariances, wider', ellip3(equal + '3'), 'E',
+              on='2 2 2, 2 0 0, 0 2 0, 0 0 -2', inside='1 -1 0, 2 1 1', outside='2 2 0, 0 -2 -2, 2 -1 0, 1 -1 -2')
+    positions('equal covariances, wider still', ellip3(equal + '4'), 'E', on='2 2 0, 0 -2 -2, 2 0 2', inside='2 2 2, 2 0 0', outside='2 -1 0, 3 1 0')
+
+    # With c13 and c23 of 0 and the third value at its mean, the ellipse of the first two dimensions.
+    for fields, flat in (('400 200 50 40000 0 0 30625 0 10000 1', '400 200 40000 0 30625 1'), ('1 2 -3 5 6 0 9 0 7 4', '1 2 5 6 9 4'),
+                         ('0 0 0 2 1 0 1 0 1 5', '0 0 2 1 1 5')):
+        both = tabs('dims A B C', 'ellip3 E - A B C ' + fields, 'ellip F - A B ' + flat)
+        mx, my, mz = [int(field) for field in fields.split()[:3]]
+        for dx, dy in [(200, 0), (0, 175), (0, 176), (56, 168), (-56, 168)] + list(itertools.product(range(-6, 7), repeat=2)):
+            check('flat %s at %d %d' % (fields, dx, dy), position(both, [mx + dx, my + dy, mz], 'E'), position(both, [mx + dx, my + dy, mz], 'F'))
+    marked = ellip3('400 200 50 40000 0 0 30625 0 10000 1')
+    positions('01\'s Ring with a third dimension', marked, 'E', on='600 200 50, 400 375 50, 344 368 50, 400 200 150, 400 200 -50, 400 340 110, 520 200 130',
+              inside='599 200 50, 400 340 109, 344 367 50', outside='400 376 50, 600 200 51, 400 200 151, 400 340 111')
+
+    # The determinant is 2 to the 72; 31 times 4096 is 126,976, and so is (6, 21, 22) times 4096.
+    wide = ellip3('-65536 -65536 -65536 16777216 0 0 16777216 0 16777216 961')
+    positions('as wide as the scale', wide, 'E', on='61440 -65536 -65536, -65536 61440 -65536, -65536 -65536 61440, -40960 20480 24576',
+              inside='-65536 -65536 -65536, 61439 -65536 -65536, -40960 20480 24575, -65280 -65536 -65536',
+              outside='61441 -65536 -65536, -40960 20480 24577, 65535 65535 65535')
+    positions('wider than the scale', ellip3('-65536 -65536 -65536 16777216 0 0 16777216 0 16777216 4096'), 'E', inside='65535 65535 65535, 65535 -65536 65535')
+    positions('as wide as can be, tilted', ellip3('-65536 -65536 65535 16777216 16777215 -16777214 16777216 -16777215 16777216 4096'), 'E',
+              inside='65535 65535 -65536, -65536 -65536 65535', outside='65535 65535 65535, 65535 -65536 65535')
+    # A determinant of 1: the rows (1, 0, 0), (1000, 1, 0), (2000, 3000, 1) take (1, 0, 0), (0, 1, 0), (0, 0, 1) to its columns.
+    thin = '0 0 0 1 1000 2000 1000001 2003000 13000001 '
+    positions('thin', ellip3(thin + '1'), 'E', on='1 1000 2000, 0 1 3000, 0 0 1, -1 -1000 -2000',
+              inside='0 0 0', outside='1 1000 2001, 1 1001 5000, 1 0 0, 0 1 0')
+    positions('thin and wider', ellip3(thin + '2'), 'E', on='1 1001 5000, 1 1000 2001, 0 1 3001, 0 1 2999',
+              inside='1 1000 2000, 0 0 1', outside='0 0 2, 1 1001 5001')
+    refused('too thin', ellip3('0 0 0 1 1000 2000 1000001 2003000 13000000 1'), 11, 2)
+
+    family = tabs('dims A B C', 'rect R - A 0 *', 'ellip3 E R A B C 0 0 0 441 0 0 900 0 3600 1', 'and Both - E !R', 'not N E E', 'poly P E B C 20 0 20 90 0 0',
+                  'ellip3 K E B C A 0 0 0 400 0 0 1600 0 49 2')
+    for event, inside, outline in (([7, 20, 40], 'R E P', 'E P'), ([0, 20, 40], 'R E P K', 'P K'), ([-7, 20, 40], '', ''), ([7, 20, 41], 'R', ''),
+                                   ([0, 0, 60], 'R E', 'E'), ([7, 0, 40], 'R E K', 'K')):
+        check('with parents at %s' % event, gates.members(family, event), words_of(inside))
+        check('outlines with parents at %s' % event, gates.outlined(family, event), words_of(outline))
+        check('and by the plan', position(family, event, 'E') is not None, True)
+    prints('counted', family + tabs('events', '7 20 40', '0 20 40', '-7 20 40', '7 20 41', '0 0 60', '0 0 65536'),
+           'R 4', 'E 3', 'Both 0', 'N 0', 'P 2', 'K 1', 'taken 5', 'spoilt 1')
+    words = gates.compile_table(upright, 4096)[2]
+    check('judged', gates.judge(words, [7, 20, 40]), (0, 0, 1, 1))
+    check('judged, spoilt', gates.judge(words, [7, 20, 65536]), (24, 2, 0, 0))
+    check('judged, too short', gates.judge(words, [21, 0]), (23, 2, 0, 0))
+    check('judged, a word left over', gates.judge(words + [0], [21, 0, 0]), (22, 19, 0, 0))
+    # A float of the first issue knows kinds 1 to 6.
+    known, gates.STEP_KINDS = gates.STEP_KINDS, range(1, 7)
+    check('a first float', gates.judge(words, [7, 20, 40]), (22, 2, 0, 0))
+    check('a first float, behind other steps', gates.check_plan(gates.compile_table(family, 4096)[2]), (22, 9))
+    gates.STEP_KINDS = known
+
+
 # ---------------------------------------------------------------- 01, "The plan": aboard
 
 def plans():
@@ -695,7 +822,7 @@ def plans():
     for place, word, bad in ((2, 0, 2), (2, 7, 5), (2, 12, 2), (3, 1, 3), (3, -1, 3), (4, 0, 4), (4, -2, 4),
                              (5, 0, 5), (5, 4, 5), (5, 27, 5), (6, 2, 6), (6, -1, 6), (9, 0, 9), (7, -65537, 7),
                              (7, 65536, 7), (8, 65537, 8), (8, 1, 8), (8, 0, 8), (8, -65536, 8), (5, 3, 9),
-                             (5, 9, 12), (1, 0, 2), (0, 1, 9), (1, 2, 12), (2, 8, 2)):
+                             (5, 9, 12), (1, 0, 2), (0, 1, 9), (1, 2, 12), (2, 8, 5), (2, 9, 2)):
         words = list(box)
         words[place] = word
         form('box, word %d is %d' % (place, word), words, bad)
@@ -756,6 +883,45 @@ def plans():
     form('kind 3 with an entry of kind 7', ellipse_with((16777217, 0, 5), 4), 10)
     form('kind 3 with a D2 of kind 7', ellipse_with((5, 6, 9), 4096000), 13)
 
+    def ellipsoid_with(matrix, d2, end=None):
+        return ([3, 1, 8, 0, -1, 13, 0, 1, 2, 5, 5, 5] + list(matrix) + [d2])[:end]
+
+    for matrix in generate.GOOD_ELLIPSOIDS:
+        for d2, bad in ((1, None), (4096, None), (0, 18), (-1, 18), (4097, 18)):
+            form('kind 8, matrix %d %d %d %d %d %d, D2 %d' % (*matrix, d2), ellipsoid_with(matrix, d2), bad)
+        form('kind 8, matrix %d %d %d %d %d %d, a word left over' % matrix, ellipsoid_with(matrix, 1) + [0], 19)
+        for end in range(19):
+            form('kind 8, matrix %d %d %d %d %d %d, cut off after %d' % (*matrix, end), ellipsoid_with(matrix, 1, end), end)
+    for matrix in generate.BAD_ELLIPSOIDS:
+        label = 'kind 8, bad matrix %d %d %d %d %d %d' % matrix
+        for d2 in (1, 0, 4097, -2147483648):
+            form(label + ', D2 %d' % d2, ellipsoid_with(matrix, d2), 12)
+        form(label + ', no D2', ellipsoid_with(matrix, 1, 18), 12)
+        for end in range(12, 18):
+            form(label + ', cut off after %d' % end, ellipsoid_with(matrix, 1, end), end)
+        for at in range(6):
+            for word in (16777217, -16777217, 2147483647, -2147483648):
+                other = list(matrix)
+                other[at] = word
+                form(label + ', entry %d is %d' % (at, word), ellipsoid_with(other, 1), 12 + at)
+                form(label + ', entry %d is %d, and cut off' % (at, word), ellipsoid_with(other, 1, 13 + at), 12 + at)
+    form('kind 8, two entries off range', ellipsoid_with((1, 0, 16777217, 1, -16777217, 1), 0), 14)
+    whole = ellipsoid_with((5, 1, 1, 5, 1, 5), 9)
+    form('kind 8', whole, None)
+    for place, word, bad in ((0, 2, 8), (0, 9, 0), (1, 0, 2), (2, 7, 5), (2, 3, 5), (2, 9, 2), (3, 1, 3), (4, 0, 4), (5, 8, 5), (5, 12, 5),
+                             (5, 14, 5), (5, 0, 5), (6, 3, 6), (6, -1, 6), (7, 0, 7), (7, 3, 7), (8, 0, 8), (8, 1, 8), (8, 3, 8), (8, -1, 8),
+                             (6, 1, 7), (6, 2, 8), (7, 2, 8),
+                             (9, 65536, 9), (9, -65537, 9), (10, 65536, 10), (10, -65537, 10), (11, 65536, 11), (11, -65537, 11),
+                             (9, -65536, None), (11, 65535, None), (12, 0, 12), (12, -5, 12), (15, 0, 12), (17, 0, 12), (13, 5, 12), (14, -5, 12), (16, 5, 12),
+                             (17, -16777216, 12), (17, 16777216, None)):
+        words = list(whole)
+        words[place] = word
+        form('kind 8, word %d is %d' % (place, word), words, bad)
+    form('kind 8, means before a bad matrix', [3, 1, 8, 0, -1, 13, 0, 1, 2, 5, 5, 65536, 0, 0, 0, 0, 0, 0, 0], 11)
+    form('kind 8 of length 12', [3, 1, 8, 0, -1, 12] + whole[6:18], 5)
+    form('kind 8 of length 14', [3, 1, 8, 0, -1, 14] + whole[6:] + [1], 5)
+    form('kind 8 with the dimensions in another order', [8, *whole[1:6], 7, 0, 5, *whole[9:]], None)
+
     polygon = [2, 1, 2, 0, -1, 8, 1, 0, 0, 0, 5, 0, 5, 65535]
     form('a polygon', polygon, None)
     form('vertex off range', polygon[:-1] + [65536], 13)
@@ -778,8 +944,10 @@ def plans():
     form('two operands for not', first + [6, 0, 1, 2, 2, 3], 12)
     form('not', first + [6, 0, 1, 1, 3], None)
     form('second step missing', first, 9)
-    for kind in range(8, 13):
+    for kind in range(9, 13):
         form('kind %d' % kind, [2, 1, kind, 0, -1, 8], 2)
+    form('kind 8, cut off after its length', [3, 1, 8, 0, -1, 13], 6)
+    form('kind 8 with the length of kind 7', [3, 1, 8, 0, -1, 8], 5)
     form('kind 7, cut off after its length', [2, 1, 7, 0, -1, 8], 6)
     for end in range(len(EXAMPLE_PLAN)):
         form('the example cut off after %d' % end, EXAMPLE_PLAN[:end], end)
@@ -910,6 +1078,26 @@ def ellipse_said(mx, my, c11, c12, c22, d2, x, y):
     return ON_OUTLINE if distance == d2 else INSIDE if distance < d2 else OUTSIDE
 
 
+def ellipsoid_said(means, entries, d2, point):
+    """Where a point is, by a sum of squares.
+
+    The matrix is taken apart into L W Lt, with ones on the diagonal of L and zeros above it; what L takes to the point is squared and
+    divided by the weights W.
+    """
+    c11, c12, c13, c22, c23, c33 = map(Fraction, entries)
+    first = c11
+    l21, l31 = c12 / first, c13 / first
+    second = c22 - l21 * l21 * first
+    l32 = (c23 - l21 * l31 * first) / second
+    third = c33 - l31 * l31 * first - l32 * l32 * second
+    dx, dy, dz = [value - mean for value, mean in zip(point, means)]
+    u = dx
+    v = dy - l21 * u
+    w = dz - l31 * u - l32 * v
+    distance = u * u / first + v * v / second + w * w / third
+    return ON_OUTLINE if distance == d2 else INSIDE if distance < d2 else OUTSIDE
+
+
 def in_thousandths(fields):
     """Exact means, c11, c12, c22, D2 as words of kind 7."""
     words = [*fields[:2], *[1000 * number for number in fields[2:]]]
@@ -947,6 +1135,38 @@ def outlines(seed):
         check('decimals %s at %d %d' % (fields, x, y), gates.ellipse_position(*fields, x, y), wanted)
         check('kind 7 %s at %d %d' % (words, x, y), gates.decimal_ellipse_position(*words, x, y), wanted)
         check('kind 7 %s holds %d %d' % (words, x, y), gates.decimal_ellipse_holds(*words, x, y), wanted != OUTSIDE)
+
+    def ellipsoid(means, entries, d2, point):
+        wanted = ellipsoid_said(means, entries, d2, point)
+        met['ellipsoid', wanted] += 1
+        step = [value - mean for value, mean in zip(point, means)]
+        left, right = generate.ellipsoid_sides(entries, d2, *step)
+        for otherwise in CARELESS:
+            met['ellipsoid', otherwise] += otherwise(entries, d2, *step)
+        met['ellipsoid', 'beyond 64 bits'] += max(left, right) >= 2 ** 63
+        rows = gates.symmetric(*entries)
+        label = 'ellipsoid %s %s %d at %s' % (means, entries, d2, point)
+        check(label, gates.ellipsoid_position(means, rows, d2, point), wanted)
+        check(label + ' by 000', gates.ellipsoid_position_by_000(means, rows, d2, point), wanted)
+        check(label + ' by sides', ON_OUTLINE if left == right else INSIDE if left < right else OUTSIDE, wanted)
+        check(label + ' holds', gates.ellipsoid_holds(means, rows, d2, point), wanted != OUTSIDE)
+
+    for _ in range(300):
+        table = generate.Table(rng, n=3)
+        line = table.ellip3()
+        order = [table.dimensions.index(field) for field in line.fields[3:6]]
+        numbers = [int(field) for field in line.fields[6:]]
+        for event in table.events(8):
+            ellipsoid(numbers[:3], numbers[3:9], numbers[9], [event[at] for at in order])
+    for _ in range(200):
+        place = rng.choice(([0, 0, 0], [7, -30, 2], [40000, -65536, 65535], [65535, 65535, 65535]))
+        means, entries, d2 = generate.ellipsoid_through(rng, place)
+        for step in ((0, 0, 0), (1, 0, 0), (0, -1, 0), (0, 1, 1), (0, 0, -1)):
+            ellipsoid(means, entries, d2, [value + part for value, part in zip(place, step)])
+    for _ in range(8):
+        entries, d2, _ = generate.small_ellipsoid(rng)
+        for point in itertools.product(range(-3, 4), repeat=3):
+            ellipsoid([0, 0, 0], entries, d2, point)
 
     for _ in range(300):
         table = generate.Table(rng, n=2, span=rng.choice(((-5, 5), (-9, 9), (-65536, 65535))))
@@ -991,11 +1211,13 @@ def outlines(seed):
         check('vertices of a long outline', len(points), size)
         for _ in range(2):
             polygon([value for point in points for value in point], *long_outlines.place(rng, points))
-    for shape, least in (('polygon', 400), ('ellipse', 300), ('decimals', 100)):
+    for shape, least in (('polygon', 400), ('ellipse', 300), ('decimals', 100), ('ellipsoid', 400)):
         for said in (OUTSIDE, INSIDE, ON_OUTLINE):
             check('%s, %s was met' % (shape, said), met[shape, said] > least, True)
     for otherwise in CARELESS:
         check('points were met where %s' % otherwise.__name__, met[otherwise] > 10, True)
+        check('points of ellipsoids were met where %s' % otherwise.__name__, met['ellipsoid', otherwise] > 30, True)
+    check('ellipsoids with sides beyond 64 bits were met', met['ellipsoid', 'beyond 64 bits'] > 300, True)
 
 
 def accepted_tables(seed, count):
@@ -1022,12 +1244,12 @@ def accepted_tables(seed, count):
 
         events = table.events(12)
         member_of, outline_of = gates.membership(data), gates.outlines(data)
-        with_outline = {line.fields[1] for line in table.lines if line.kind in (b'poly', b'ellip')}
+        with_outline = {line.fields[1] for line in table.lines if line.kind in (b'poly', b'ellip', b'ellip3')}
         counts = {name: 0 for name in names}
         for event in events:
             inside, outline = member_of(event), outline_of(event)
             outlined_events += outline != set()
-            check(where + 'members on outlines of polygons and ellipses', outline <= inside & with_outline, True)
+            check(where + 'members on outlines of their own', outline <= inside & with_outline, True)
             for name in inside:
                 counts[name] += 1
             sets = [sum(1 << region for region, name in enumerate(names) if name in found)
@@ -1125,6 +1347,9 @@ def outline_bits(words, event):
         elif kind in (3, 7):
             numbers = [Fraction(word, 1000) for word in body[4:]] if kind == 7 else body[4:]
             bits |= (ellipse_said(*body[2:4], *numbers, event[body[0]], event[body[1]]) == ON_OUTLINE) << region
+        elif kind == 8:
+            point = [event[dimension] for dimension in body[:3]]
+            bits |= (ellipsoid_said(body[3:6], body[6:12], body[12], point) == ON_OUTLINE) << region
     return bits
 
 
@@ -1147,7 +1372,8 @@ def at_outline(vertices, x, y):
         yield 'inside' if winding(vertices, x, y) else 'outside'
         if 0 in sides:
             here = [vx for vx, vy in points if vy == y]
-            yield 'left of vertices at its height' if min(here) > x else 'right of vertices at its height' if max(here) < x else 'between vertices at its height'
+            yield ('left of vertices at its height' if min(here) > x else 'right of vertices at its height' if max(here) < x
+                   else 'between vertices at its height')
     for at in range(last + 1):
         around = {sides[(at + step) % (last + 1)] for step in (-4, -3, -2, -1, 1, 2, 3, 4)}
         if sides[at] == 0 and around in ({1}, {-1}):
@@ -1161,7 +1387,7 @@ AT_OUTLINE = {'on the first edge alone': 10, 'on the closing edge alone': 10, 'o
 
 
 def asked(seed, count):
-    """The questions have kind 7 in plans that pass and in others, and events at which a careless counter would be seen.
+    """The questions have kinds 7 and 8 in plans that pass and in others, and events at which a careless counter would be seen.
 
     They have polygons of every number of vertices, with events at each sort of place.
     """
@@ -1170,10 +1396,12 @@ def asked(seed, count):
         _, question = generate.request(seed, number)
         if question[0] == 'compile':
             words = gates.compile_table(question[2], question[1])[2] or []
-            met['compiled'] += 7 in [step[0] for step in gates.plan_steps(words)]
+            for new in (7, 8):
+                met[new, 'compiled'] += new in [step[0] for step in gates.plan_steps(words)]
             continue
         words, (refusal, _) = question[1], gates.check_plan(question[1])
-        met['%s, refused with %d' % (question[0], refusal)] += 7 in (words if refusal else [step[0] for step in gates.plan_steps(words)])
+        for new in (7, 8):
+            met[new, '%s, refused with %d' % (question[0], refusal)] += new in (words if refusal else [step[0] for step in gates.plan_steps(words)])
         if question[0] == 'judge' and refusal == 0 and len(question[2]) == words[0] and not gates.is_spoilt(question[2]):
             for kind, _, _, body in gates.plan_steps(words):
                 if kind == 2:
@@ -1182,12 +1410,17 @@ def asked(seed, count):
                 elif kind == 7:
                     dx, dy = question[2][body[0]] - body[2], question[2][body[1]] - body[3]
                     for otherwise in CARELESS:
-                        met[otherwise.__name__] += otherwise(body[4:7], body[7], dx, dy)
-    for what in ('compiled', 'check, refused with 0', 'check, refused with 22', 'judge, refused with 0', 'count, refused with 0',
-                 'wrong_in_64_bits'):
-        check('questions with kind 7, %s' % what, met[what] > count // 100, True)
-    for what in ('rim_wrong_in_64_bits', 'wrong_in_doubles', 'rim_wrong_in_doubles'):
-        check('questions with kind 7, %s' % what, met[what] > 0, True)
+                        met[7, otherwise.__name__] += otherwise(body[4:7], body[7], dx, dy)
+                elif kind == 8:
+                    step = [question[2][dimension] - mean for dimension, mean in zip(body[:3], body[3:6])]
+                    for otherwise in CARELESS:
+                        met[8, otherwise.__name__] += otherwise(body[6:12], body[12], *step)
+    for new in (7, 8):
+        for what in ('compiled', 'check, refused with 0', 'check, refused with 22', 'judge, refused with 0', 'count, refused with 0',
+                     'wrong_in_64_bits'):
+            check('questions with kind %d, %s' % (new, what), met[new, what] > count // 100, True)
+        for what in ('rim_wrong_in_64_bits', 'wrong_in_doubles', 'rim_wrong_in_doubles'):
+            check('questions with kind %d, %s' % (new, what), met[new, what] > 0, True)
     check('questions with every number of vertices', sizes, set(range(long_outlines.LEAST, long_outlines.MOST + 1)))
     for what, least in AT_OUTLINE.items():
         check('questions with long outlines, %s' % what, met[what] >= least * count // 2000, True)
@@ -1227,6 +1460,7 @@ def main():
     membership()
     on_outlines()
     decimals()
+    ellipsoids()
     plans()
     program()
     outlines(options.seed)
