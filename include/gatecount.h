@@ -17,6 +17,8 @@
  *     4 and, 5 or       2 * region, plus 1 for the events not in it         2 to 63
  *     6 not             likewise                                            1
  *     7 decimal ellipse as 3, with c11, c12, c22, D^2 in thousandths        8
+ *     8 ellipsoid       three dimensions, three means,                      13
+ *                       c11, c12, c13, c22, c23, c33, D^2
  *
  * An event is n values. It is taken when each is from -65,536 to 65,535, else it is spoilt and a member of no region.
  *
@@ -60,7 +62,8 @@ enum gate_kind {
     GATE_AND = 4,
     GATE_OR = 5,
     GATE_NOT = 6,
-    GATE_DECIMAL_ELLIPSE = 7
+    GATE_DECIMAL_ELLIPSE = 7,
+    GATE_ELLIPSOID = 8
 };
 
 /* What stands where in `out`, and the lengths of `out`. */
@@ -92,7 +95,8 @@ void gate_check(const int32_t *plan, size_t plan_len, uint64_t out[2]);
 /*
  * Judges one event: refusal (21 to 24), place, bits, outline bits. A refused judging sets no bit of either set.
  * An outline bit is set when the event is a member of the region and on the outline of the region's own shape: on some
- * edge of its polygon, wherever that edge lies, or on the rim of its ellipse, where both sides of the rule are equal.
+ * edge of its polygon, wherever that edge lies, or on the rim of its ellipse or ellipsoid, where both sides of the rule
+ * are equal.
  * Boxes and combinations have no outline. An event outside the parent is no member, so neither of its bits is set.
  */
 void gate_judge(const int32_t *plan, size_t plan_len, const int32_t *event, size_t event_len, uint64_t out[4]);

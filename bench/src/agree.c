@@ -110,12 +110,17 @@ static struct answer ask_all(enum function function, const struct plan *plan,
 
 /* ---- Outlines ---- */
 
-enum outline { POLYGON, UPRIGHT_ELLIPSE, TILTED_ELLIPSE, UPRIGHT_DECIMAL, TILTED_DECIMAL, OUTLINES };
+enum outline {
+    POLYGON, UPRIGHT_ELLIPSE, TILTED_ELLIPSE, UPRIGHT_DECIMAL, TILTED_DECIMAL, UPRIGHT_ELLIPSOID, TILTED_ELLIPSOID, OUTLINES
+};
 
 static const char *const outline_names[] = {"polygon", "upright ellipse", "tilted ellipse", "upright decimal ellipse",
-                                            "tilted decimal ellipse"};
+                                            "tilted decimal ellipse", "upright ellipsoid", "tilted ellipsoid"};
 
 static uint64_t outline_bits[OUTLINES]; /* those that judged events had */
+
+/* Of an ellipsoid. */
+static bool is_upright(const int32_t *body) { return body[7] == 0 && body[8] == 0 && body[10] == 0; }
 
 /* Notes the outline bits of an event by the shapes of their regions; the plan passes. */
 static void note_outlines(const struct plan *plan, uint64_t outline) {
@@ -126,6 +131,7 @@ static void note_outlines(const struct plan *plan, uint64_t outline) {
         if (step[0] == GATE_POLYGON) outline_bits[POLYGON] += bit;
         else if (step[0] == GATE_ELLIPSE) outline_bits[body[5] == 0 ? UPRIGHT_ELLIPSE : TILTED_ELLIPSE] += bit;
         else if (step[0] == GATE_DECIMAL_ELLIPSE) outline_bits[body[5] == 0 ? UPRIGHT_DECIMAL : TILTED_DECIMAL] += bit;
+        else if (step[0] == GATE_ELLIPSOID) outline_bits[is_upright(body) ? UPRIGHT_ELLIPSOID : TILTED_ELLIPSOID] += bit;
         step = body + step[3];
     }
 }

@@ -26,10 +26,11 @@ static struct contender *add_contender(const char *name, enum contender_kind kin
     return contender;
 }
 
-/* An earlier counter may not know decimal ellipses. */
+/* An earlier counter may not know decimal ellipses or ellipsoids. */
 void add_counter(char *argument) {
     struct library library = load_library(argument);
     unsigned unknown = library.last_kind < GATE_DECIMAL_ELLIPSE ? DECIMAL_ELLIPSES : 0;
+    if (library.last_kind < GATE_ELLIPSOID) unknown += ELLIPSOIDS;
     add_contender(library.name, COUNTER, COUNTS + CALLS - unknown)->library = library;
 }
 

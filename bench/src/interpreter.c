@@ -12,9 +12,10 @@ enum { MIN_VALUE = -65536, MAX_VALUE = 65535, MAX_ENTRY = 16777216, MAX_D2 = 409
 /* Entries and D^2 of a decimal ellipse are in thousandths. */
 enum { MAX_DECIMAL_ENTRY = 2000000000, MAX_DECIMAL_D2 = 4096000 };
 
-/* Where a step's header and an ellipse's body have their words. */
+/* Where a step's header, an ellipse's body and an ellipsoid's have their words; the six entries stand row by row. */
 enum { KIND, REGION, PARENT, LENGTH, HEADER };
 enum { MEAN_X = 2, MEAN_Y, C11, C12, C22, D2, ELLIPSE_LENGTH };
+enum { MEANS_3 = 3, ENTRIES_3 = 6, D2_3 = 12, ELLIPSOID_LENGTH };
 
 static bool within(int32_t low, int32_t x, int32_t high) { return low <= x && x <= high; }
 
@@ -86,9 +87,62 @@ static wide decimal_right_side(const int32_t *body) {
     return (wide)(c11 * c22 - c12 * c12) * body[D2];
 }
 
-/* Inlined by gcc it would make counting boxes slower, by up to 30 %. */
 __attribute__((noinline)) static bool in_decimal_ellipse(const int32_t *body, const int32_t *event) {
     return decimal_left_side(body, event) <= decimal_right_side(body);
+}
+
+/* The matrix of an ellipsoid. */
+struct matrix {
+    int64_t c11, c12, c13, c22, c23, c33;
+};
+
+static struct matrix matrix_of(const int32_t *body) {
+    const int32_t *c = body + ENTRIES_3;
+    return (struct matrix){c[0], c[1], c[2], c[3], c[4], c[5]};
+}
+
+/* Its adjugate, which is symmetric too. */
+struct adjugate {
+    int64_t a11, a12, a13, a22, a23, a33;
+};
+
+static struct adjugate adjugate_of(struct matrix c) {
+    return (struct adjugate){
+        .a11 = c.c22 * c.c33 - c.c23 * c.c23,
+        .a12 = c.c13 * c.c23 - c.c12 * c.c33,
+        .a13 = c.c12 * c.c23 - c.c13 * c.c22,
+        .a22 = c.c11 * c.c33 - c.c13 * c.c13,
+        .a23 = c.c12 * c.c13 - c.c11 * c.c23,
+        .a33 = c.c11 * c.c22 - c.c12 * c.c12,
+    };
+}
+
+static wide determinant(struct matrix c) {
+    struct adjugate a = adjugate_of(c);
+    return (wide)c.c11 * a.a11 + (wide)c.c12 * a.a12 + (wide)c.c13 * a.a13;
+}
+
+/* The sides of an ellipsoid's rule pass 64 bits; an entry of the adjugate and a product of two differences don't. */
+static wide ellipsoid_left_side(const int32_t *body, const int32_t *event) {
+    int64_t dx = (int64_t)event[body[0]] - body[MEANS_3], dy = (int64_t)event[body[1]] - body[MEANS_3 + 1];
+    int64_t dz = (int64_t)event[body[2]] - body[MEANS_3 + 2];
+    struct adjugate a = adjugate_of(matrix_of(body));
+    return (wide)a.a11 * (dx * dx) + (wide)a.a22 * (dy * dy) + (wide)a.a33 * (dz * dz) +
+           (wide)(2 * a.a12) * (dx * dy) + (wide)(2 * a.a13) * (dx * dz) + (wide)(2 * a.a23) * (dy * dz);
+}
+
+static wide ellipsoid_right_side(const int32_t *body) { return body[D2_3] * determinant(matrix_of(body)); }
+
+__attribute__((noinline)) static bool in_ellipsoid(const int32_t *body, const int32_t *event) {
+    return ellipsoid_left_side(body, event) <= ellipsoid_right_side(body);
+}
+
+/*
+ * A shape whose rule passes 64 bits. Inlined by gcc it would make counting boxes slower, by up to 30 %, and so would a
+ * call for each of the two kinds in the loop over the steps.
+ */
+__attribute__((noinline)) static bool in_wide_shape(const int32_t *body, const int32_t *event) {
+    return body[KIND - HEADER] == GATE_ELLIPSOID ? in_ellipsoid(body, event) : in_decimal_ellipse(body, event);
 }
 
 static bool operand(uint64_t bits, int32_t word) { return has(bits, word / 2) != (word % 2 == 1); }
@@ -112,7 +166,8 @@ static bool in_shape(int32_t kind, const int32_t *body, int length, const int32_
     case GATE_BOX: return in_box(body, length, event);
     case GATE_POLYGON: return in_polygon(body, length, event);
     case GATE_ELLIPSE: return in_ellipse(body, event);
-    case GATE_DECIMAL_ELLIPSE: return in_decimal_ellipse(body, event);
+    case GATE_DECIMAL_ELLIPSE:
+    case GATE_ELLIPSOID: return in_wide_shape(body, event);
     case GATE_AND: return in_all(body, length, bits);
     case GATE_OR: return in_any(body, length, bits);
     default: return !operand(bits, body[0]);
@@ -154,6 +209,7 @@ static bool on_outline(int32_t kind, const int32_t *body, int length, const int3
     case GATE_POLYGON: return on_polygon(body, length, event);
     case GATE_ELLIPSE: return left_side(body, event) == right_side(body);
     case GATE_DECIMAL_ELLIPSE: return decimal_left_side(body, event) == decimal_right_side(body);
+    case GATE_ELLIPSOID: return ellipsoid_left_side(body, event) == ellipsoid_right_side(body);
     default: return false;
     }
 }
@@ -189,6 +245,7 @@ static bool length_good(int32_t kind, int32_t length) {
     case GATE_POLYGON: return within(8, length, 514) && length % 2 == 0;
     case GATE_ELLIPSE:
     case GATE_DECIMAL_ELLIPSE: return length == ELLIPSE_LENGTH;
+    case GATE_ELLIPSOID: return length == ELLIPSOID_LENGTH;
     case GATE_NOT: return length == 1;
     default: return within(2, length, 63);
     }
@@ -221,6 +278,14 @@ static bool ellipse_word_good(const int32_t *body, int i, int n, int32_t max_ent
     return within(1, body[i], max_d2);
 }
 
+/* Inlined by gcc it would move bits_of to where counting boxes is slower, by up to 10 %. */
+__attribute__((noinline)) static bool ellipsoid_word_good(const int32_t *body, int i, int n) {
+    if (i < MEANS_3) return dimension_good(body, i, 1, n);
+    if (i < ENTRIES_3) return within(MIN_VALUE, body[i], MAX_VALUE);
+    if (i < D2_3) return within(-MAX_ENTRY, body[i], MAX_ENTRY);
+    return within(1, body[i], MAX_D2);
+}
+
 /* Word i of a body, by itself and by the words before it. */
 static bool body_word_good(int32_t kind, const int32_t *body, int i, int n, uint64_t set) {
     switch (kind) {
@@ -228,6 +293,7 @@ static bool body_word_good(int32_t kind, const int32_t *body, int i, int n, uint
     case GATE_POLYGON: return i < 2 ? dimension_good(body, i, 1, n) : within(MIN_VALUE, body[i], MAX_VALUE);
     case GATE_ELLIPSE: return ellipse_word_good(body, i, n, MAX_ENTRY, MAX_D2);
     case GATE_DECIMAL_ELLIPSE: return ellipse_word_good(body, i, n, MAX_DECIMAL_ENTRY, MAX_DECIMAL_D2);
+    case GATE_ELLIPSOID: return ellipsoid_word_good(body, i, n);
     default: return body[i] >= 0 && earlier(set, body[i] / 2);
     }
 }
@@ -237,6 +303,11 @@ static bool has_matrix(int32_t kind) { return kind == GATE_ELLIPSE || kind == GA
 static bool matrix_good(const int32_t *body) {
     int64_t c11 = body[C11], c12 = body[C12], c22 = body[C22];
     return c11 > 0 && c11 * c22 > c12 * c12;
+}
+
+static bool matrix_3_good(const int32_t *body) {
+    struct matrix c = matrix_of(body);
+    return c.c11 > 0 && c.c11 * c.c22 > c.c12 * c.c12 && determinant(c) > 0;
 }
 
 /* The place of the lowest bad word, NO_PLACE in a plan of good form. */
@@ -249,7 +320,7 @@ static size_t bad_word(const int32_t *plan, size_t plan_len) {
     for (int s = 0; s < steps; s++) {
         const int32_t *step = plan + at, *body = step + HEADER;
         size_t left = plan_len - at;
-        if (left <= KIND || !within(GATE_BOX, step[KIND], GATE_DECIMAL_ELLIPSE)) return at + KIND;
+        if (left <= KIND || !within(GATE_BOX, step[KIND], GATE_ELLIPSOID)) return at + KIND;
         if (left <= REGION || !within(0, step[REGION], steps - 1) || has(set, step[REGION])) return at + REGION;
         if (left <= PARENT || !(step[PARENT] == GATE_NO_PARENT || earlier(set, step[PARENT]))) return at + PARENT;
         if (left <= LENGTH || !length_good(step[KIND], step[LENGTH])) return at + LENGTH;
@@ -258,6 +329,7 @@ static size_t bad_word(const int32_t *plan, size_t plan_len) {
             if (left <= (size_t)(HEADER + i)) return plan_len;
             if (!body_word_good(step[KIND], body, i, n, set)) return at + HEADER + i;
             if (has_matrix(step[KIND]) && i == C22 && !matrix_good(body)) return at + HEADER + C11;
+            if (step[KIND] == GATE_ELLIPSOID && i == D2_3 - 1 && !matrix_3_good(body)) return at + HEADER + ENTRIES_3;
         }
         set |= (uint64_t)1 << step[REGION];
         at += HEADER + length;

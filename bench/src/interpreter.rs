@@ -23,6 +23,10 @@ mod counter {
     const C11: usize = 4;
     const C22: usize = 6;
 
+    /// Places of c11 and c33 in the body of an ellipsoid.
+    const FIRST_ENTRY: usize = 6;
+    const LAST_ENTRY: usize = 11;
+
     /// Number and place.
     #[derive(Clone, Copy)]
     pub struct Refusal(pub u64, pub usize);
@@ -38,6 +42,7 @@ mod counter {
         Polygon(&'a [i32]),
         Ellipse(&'a [i32]),
         DecimalEllipse(&'a [i32]),
+        Ellipsoid(&'a [i32]),
         And(&'a [i32]),
         Or(&'a [i32]),
         Not(i32),
@@ -60,7 +65,8 @@ mod counter {
             4 => Shape::And(body),
             5 => Shape::Or(body),
             6 => Shape::Not(body[0]),
-            _ => Shape::DecimalEllipse(body),
+            7 => Shape::DecimalEllipse(body),
+            _ => Shape::Ellipsoid(body),
         };
         Step { region: plan[at + 1], parent: plan[at + 2], shape, next }
     }
@@ -71,7 +77,8 @@ mod counter {
 
     // ---- Members ----
 
-    /// The position of an event to a shape. Only polygons and ellipses have an outline, which belongs to the shape.
+    /// The position of an event to a shape. Only polygons, ellipses and ellipsoids have an outline, which belongs to the
+    /// shape.
     #[derive(Clone, Copy, PartialEq)]
     enum Position {
         Outside,
@@ -116,7 +123,7 @@ mod counter {
         off_outline(sum != 0)
     }
 
-    /// The position by the two sides of an ellipse's rule.
+    /// The position by the two sides of the rule of an ellipse or ellipsoid.
     fn position_by_sides<T: PartialOrd>(left: T, right: T) -> Position {
         if left == right {
             Position::OnOutline
@@ -134,14 +141,82 @@ mod counter {
         position_by_sides(left, right)
     }
 
+    fn product(a: i64, b: i64) -> i128 {
+        a as i128 * b as i128
+    }
+
     /// Both sides of the rule, multiplied by 1000^3, pass 64 bits; a product of two of their factors doesn't.
     fn decimal_ellipse_position(body: &[i32], event: &[i32]) -> Position {
         let dx = event[body[0] as usize] as i64 - body[2] as i64;
         let dy = event[body[1] as usize] as i64 - body[3] as i64;
         let (c11, c12, c22) = (body[4] as i64, body[5] as i64, body[6] as i64);
-        let wide = |a: i64, b: i64| a as i128 * b as i128;
-        let left = (wide(c22 * dx, dx) - wide(2 * c12 * dx, dy) + wide(c11 * dy, dy)) * 1_000_000;
-        let right = wide(c11 * c22 - c12 * c12, body[7] as i64);
+        let left = (product(c22 * dx, dx) - product(2 * c12 * dx, dy) + product(c11 * dy, dy)) * 1_000_000;
+        let right = product(c11 * c22 - c12 * c12, body[7] as i64);
+        position_by_sides(left, right)
+    }
+
+    /// The matrix of an ellipsoid.
+    struct Matrix {
+        c11: i64,
+        c12: i64,
+        c13: i64,
+        c22: i64,
+        c23: i64,
+        c33: i64,
+    }
+
+    impl Matrix {
+        /// The six entries of a body stand row by row.
+        fn of(body: &[i32]) -> Matrix {
+            let entry = |i: usize| body[FIRST_ENTRY + i] as i64;
+            Matrix { c11: entry(0), c12: entry(1), c13: entry(2), c22: entry(3), c23: entry(4), c33: entry(5) }
+        }
+
+        fn adjugate(&self) -> Adjugate {
+            let &Matrix { c11, c12, c13, c22, c23, c33 } = self;
+            Adjugate {
+                a11: c22 * c33 - c23 * c23,
+                a12: c13 * c23 - c12 * c33,
+                a13: c12 * c23 - c13 * c22,
+                a22: c11 * c33 - c13 * c13,
+                a23: c12 * c13 - c11 * c23,
+                a33: c11 * c22 - c12 * c12,
+            }
+        }
+
+        fn determinant(&self) -> i128 {
+            let a = self.adjugate();
+            product(self.c11, a.a11) + product(self.c12, a.a12) + product(self.c13, a.a13)
+        }
+
+        fn is_good(&self) -> bool {
+            self.c11 > 0 && self.c11 * self.c22 > self.c12 * self.c12 && self.determinant() > 0
+        }
+    }
+
+    /// The adjugate of a matrix, which is symmetric too.
+    struct Adjugate {
+        a11: i64,
+        a12: i64,
+        a13: i64,
+        a22: i64,
+        a23: i64,
+        a33: i64,
+    }
+
+    /// Both sides of the rule pass 64 bits; an entry of the adjugate and a product of two differences don't.
+    fn ellipsoid_position(body: &[i32], event: &[i32]) -> Position {
+        let difference = |i: usize| event[body[i] as usize] as i64 - body[3 + i] as i64;
+        let (dx, dy, dz) = (difference(0), difference(1), difference(2));
+        let matrix = Matrix::of(body);
+        let a = matrix.adjugate();
+        let left = product(a.a11, dx * dx)
+            + product(a.a22, dy * dy)
+            + product(a.a33, dz * dz)
+            + product(2 * a.a12, dx * dy)
+            + product(2 * a.a13, dx * dz)
+            + product(2 * a.a23, dy * dz);
+        let right = body[12] as i128 * matrix.determinant();
         position_by_sides(left, right)
     }
 
@@ -155,6 +230,7 @@ mod counter {
             Shape::Polygon(body) => polygon_position(body, event),
             Shape::Ellipse(body) => ellipse_position(body, event),
             Shape::DecimalEllipse(body) => decimal_ellipse_position(body, event),
+            Shape::Ellipsoid(body) => ellipsoid_position(body, event),
             Shape::And(body) => off_outline(body.iter().all(|&word| operand(bits, word))),
             Shape::Or(body) => off_outline(body.iter().any(|&word| operand(bits, word))),
             Shape::Not(word) => off_outline(!operand(bits, word)),
@@ -198,6 +274,7 @@ mod counter {
             2 => (8..=514).contains(&length) && length % 2 == 0,
             3 | 7 => length == 8,
             6 => length == 1,
+            8 => length == 13,
             _ => (2..=63).contains(&length),
         }
     }
@@ -222,10 +299,10 @@ mod counter {
                 1 => value_good,
                 _ => (MIN_VALUE + 1..=MAX_VALUE + 1).contains(&x) && before[i - 1] < x,
             },
-            (2 | 3 | 7, 0..=1) => dimension_good(before, 1, x, n),
-            (2, _) | (3 | 7, 2..=3) => value_good,
-            (3, C11..=C22) => (-MAX_ENTRY..=MAX_ENTRY).contains(&x),
-            (3, _) => (1..=MAX_D2).contains(&x),
+            (2 | 3 | 7, 0..=1) | (8, 0..=2) => dimension_good(before, 1, x, n),
+            (2, _) | (3 | 7, 2..=3) | (8, 3..=5) => value_good,
+            (3, C11..=C22) | (8, FIRST_ENTRY..=LAST_ENTRY) => (-MAX_ENTRY..=MAX_ENTRY).contains(&x),
+            (3 | 8, _) => (1..=MAX_D2).contains(&x),
             (7, C11..=C22) => (-MAX_DECIMAL_ENTRY..=MAX_DECIMAL_ENTRY).contains(&x),
             (7, _) => (1..=MAX_DECIMAL_D2).contains(&x),
             _ => x >= 0 && earlier(set, x / 2),
@@ -248,7 +325,7 @@ mod counter {
         let (mut at, mut set) = (2, 0);
         for _ in 0..steps {
             let kind = word(at)?;
-            demand((1..=7).contains(&kind), at)?;
+            demand((1..=8).contains(&kind), at)?;
             let region = word(at + 1)?;
             demand((0..steps).contains(&region) && !has(set, region), at + 1)?;
             let parent = word(at + 2)?;
@@ -262,6 +339,9 @@ mod counter {
                 demand(body_word_good(kind, &plan[body..place], x, n, set), place)?;
                 if (kind == 3 || kind == 7) && place == body + C22 {
                     demand(matrix_good(&plan[body..=place]), body + C11)?;
+                }
+                if kind == 8 && place == body + LAST_ENTRY {
+                    demand(Matrix::of(&plan[body..=place]).is_good(), body + FIRST_ENTRY)?;
                 }
             }
             set |= 1 << region;

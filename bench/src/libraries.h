@@ -4,7 +4,7 @@
 
 #include "gatecount.h"
 
-enum { LAST_KIND = GATE_DECIMAL_ELLIPSE }; /* of step */
+enum { LAST_KIND = GATE_ELLIPSOID }; /* of step */
 
 /* One that has the functions of gatecount.h, or those of an earlier counter. */
 struct library {

@@ -40,6 +40,7 @@ void even_load(struct load *load, const struct shape *shape, size_t count) {
     case POLYGONS: polygon_load(&load->plan, shape->size); break;
     case ELLIPSES: ellipses_load(&load->plan, shape->size); break;
     case DECIMAL_ELLIPSES: decimal_ellipses_load(&load->plan, shape->size); break;
+    case ELLIPSOIDS: ellipsoids_load(&load->plan, shape->size); break;
     default: boxes_load(&load->plan, shape->n, shape->size, false);
     }
     make_room(load, count);

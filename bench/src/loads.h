@@ -13,11 +13,12 @@ enum group {
     POLYGONS = 8,
     ELLIPSES = 16,
     DECIMAL_ELLIPSES = 32,
-    TABLES = 64, /* of examples/ */
-    CALLS = 128, /* of gate_check and gate_judge; all others are counts */
+    ELLIPSOIDS = 64,
+    TABLES = 128, /* of examples/ */
+    CALLS = 256,  /* of gate_check and gate_judge; all others are counts */
 
     STEPS = BOXES + CHAINS + COMBINATIONS,
-    COUNTS = STEPS + POLYGONS + ELLIPSES + DECIMAL_ELLIPSES + TABLES
+    COUNTS = STEPS + POLYGONS + ELLIPSES + DECIMAL_ELLIPSES + ELLIPSOIDS + TABLES
 };
 
 enum { LABEL_ROOM = 64 };
@@ -35,7 +36,7 @@ struct shape {
     enum group group;
     const char *name;
     int n;
-    int size; /* boxes, steps, vertices or ellipses */
+    int size; /* boxes, steps, vertices, ellipses or ellipsoids */
 };
 
 /* Events that are drawn evenly, for a plan of plans.h. */

@@ -3,7 +3,7 @@
 
 #include <math.h>
 
-enum { MIN_VALUE = -65536, MAX_VALUE = 65535, VALUES = 131072, FULL_REACH = 65536, MAX_ENTRY = 16777216 };
+enum { MIN_VALUE = -65536, MAX_VALUE = 65535, VALUES = 131072, FULL_REACH = 65536, MAX_ENTRY = 16777216, MAX_D2 = 4096 };
 enum { MAX_DECIMAL_ENTRY = 2000000000, MAX_DECIMAL_D2 = 4096000 }; /* thousandths */
 enum { MAX_VERTICES = 256, MAX_OPERANDS = 63 };
 
@@ -164,6 +164,22 @@ void decimal_ellipses_load(struct plan *plan, int count) {
     ovals(plan, count, GATE_DECIMAL_ELLIPSE, 7, 500, 2048500);
 }
 
+void ellipsoids_load(struct plan *plan, int count) {
+    struct random random = seeded(9);
+    begin_plan(plan, 3, count);
+    for (int i = 0; i < count; i++) {
+        begin_step(plan, GATE_ELLIPSOID, i, GATE_NO_PARENT);
+        for (int dimension = 0; dimension < 3; dimension++) add_word(plan, dimension);
+        for (int mean = 0; mean < 3; mean++) add_word(plan, from_to(&random, -8000, 8000));
+        for (int row = 0; row < 3; row++) {
+            add_word(plan, from_to(&random, 3500000, 4500000));
+            for (int column = row + 1; column < 3; column++) add_word(plan, from_to(&random, -1000000, 1000000));
+        }
+        add_word(plan, 1024);
+        end_step(plan);
+    }
+}
+
 void even_events(int32_t *events, int n, size_t count) {
     struct random random = seeded(3);
     for (size_t i = 0; i < count * n; i++) events[i] = any_value(&random);
@@ -204,18 +220,17 @@ static void random_box(struct random *random, struct plan *plan, int n) {
     }
 }
 
-/* Two dimensions that differ. */
-static void random_plane(struct random *random, struct plan *plan, int n) {
+/* Dimensions that differ. */
+static void random_dimensions(struct random *random, struct plan *plan, int n, int count) {
     int32_t dimensions[8];
     shuffled(random, dimensions, n);
-    add_word(plan, dimensions[0]);
-    add_word(plan, dimensions[1]);
+    for (int i = 0; i < count; i++) add_word(plan, dimensions[i]);
 }
 
 /* Any vertices: outlines cross themselves, and edges are often level or upright. */
 static void random_polygon(struct random *random, struct plan *plan, int n) {
     int vertices = one_in(random, 20) ? from_to(random, 253, MAX_VERTICES) : from_to(random, 3, 12);
-    random_plane(random, plan, n);
+    random_dimensions(random, plan, n, 2);
     for (int i = 0; i < vertices; i++) {
         bool upright = i > 0 && one_in(random, 4), level = i > 0 && one_in(random, 4);
         int32_t x = upright ? plan->words[plan->len - 2] : near_value(random, plan);
@@ -235,13 +250,13 @@ static void random_ellipse(struct random *random, struct plan *plan, int n) {
     int32_t b = small ? from_to(random, -8, 8) : from_to(random, -2800, 2800);
     int32_t f = from_to(random, 1, small ? 8 : 2800);
     bool greatest = one_in(random, 8);
-    random_plane(random, plan, n);
+    random_dimensions(random, plan, n, 2);
     add_word(plan, near_value(random, plan));
     add_word(plan, near_value(random, plan));
     add_word(plan, greatest ? MAX_ENTRY : a * a);
     add_word(plan, greatest ? (MAX_ENTRY - 1) * from_to(random, -1, 1) : a * b);
     add_word(plan, greatest ? MAX_ENTRY : b * b + f * f);
-    add_word(plan, greatest ? 4096 : d * d);
+    add_word(plan, greatest ? MAX_D2 : d * d);
 }
 
 /* The four words that a decimal ellipse has in thousandths. */
@@ -268,7 +283,7 @@ static struct thousandths rim_thousandths(struct random *random, bool small) {
 static int32_t any_size(struct random *random, int32_t greatest) {
     static const int32_t parts[] = {1, 10, 1000, 1000000};
     int32_t most = greatest / parts[below(random, 4)];
-    return from_to(random, 1, most);
+    return from_to(random, 1, most == 0 ? 1 : most);
 }
 
 /* Any numbers that make a good matrix; c12 is often as large as it may be. */
@@ -288,13 +303,89 @@ static void random_decimal_ellipse(struct random *random, struct plan *plan, int
         words = (struct thousandths){MAX_DECIMAL_ENTRY, (MAX_DECIMAL_ENTRY - 1) * from_to(random, -1, 1),
                                      MAX_DECIMAL_ENTRY, MAX_DECIMAL_D2};
     }
-    random_plane(random, plan, n);
+    random_dimensions(random, plan, n, 2);
     add_word(plan, near_value(random, plan));
     add_word(plan, near_value(random, plan));
     add_word(plan, words.c11);
     add_word(plan, words.c12);
     add_word(plan, words.c22);
     add_word(plan, words.d2);
+}
+
+/* The matrix of an ellipsoid; products of three entries pass 64 bits. */
+typedef __int128 wide;
+
+struct matrix {
+    wide c11, c12, c13, c22, c23, c33;
+};
+
+static wide upper_determinant(const struct matrix *c) { return c->c11 * c->c22 - c->c12 * c->c12; }
+
+/* The whole determinant is c33 times the upper left one, less this. */
+static wide part_without_c33(const struct matrix *c) {
+    return c->c13 * c->c13 * c->c22 - 2 * c->c12 * c->c13 * c->c23 + c->c23 * c->c23 * c->c11;
+}
+
+static bool is_good(const struct matrix *c) {
+    return c->c11 > 0 && upper_determinant(c) > 0 && c->c33 * upper_determinant(c) > part_without_c33(c);
+}
+
+/*
+ * With rows (a, 0, 0), (b, f, 0), (g, h, k) of a matrix L, L times its transpose is good, and L u from the mean lies on
+ * the rim where the squares of the whole numbers u add up to D^2.
+ */
+static struct matrix rim_matrix(struct random *random, int32_t most) {
+    bool upright = one_in(random, 4);
+    int32_t a = from_to(random, 1, most), f = from_to(random, 1, most), k = from_to(random, 1, most);
+    int32_t b = upright ? 0 : from_to(random, -most, most), g = upright ? 0 : from_to(random, -most, most);
+    int32_t h = upright ? 0 : from_to(random, -most, most);
+    return (struct matrix){a * a, a * b, a * g, b * b + f * f, b * g + f * h, g * g + h * h + k * k};
+}
+
+/* Up to `most` either way, often as much. */
+static int32_t any_entry(struct random *random, int32_t most) {
+    return one_in(random, 4) ? most * (one_in(random, 2) ? 1 : -1) : from_to(random, -most, most);
+}
+
+/* Any numbers that make a good matrix; c33 is often as small as it may be. */
+static struct matrix any_matrix(struct random *random) {
+    struct matrix c;
+    do {
+        int32_t c11 = any_size(random, MAX_ENTRY), c22 = any_size(random, MAX_ENTRY), c33 = any_size(random, MAX_ENTRY);
+        int32_t c12 = any_entry(random, (int32_t)sqrt((double)c11 * c22));
+        int32_t c13 = any_entry(random, (int32_t)sqrt((double)c11 * c33));
+        int32_t c23 = any_entry(random, (int32_t)sqrt((double)c22 * c33));
+        c = (struct matrix){c11, c12, c13, c22, c23, c33};
+    } while (!is_good(&c));
+    if (one_in(random, 2)) c.c33 = part_without_c33(&c) / upper_determinant(&c) + 1;
+    return c;
+}
+
+/* Greatest entries: upright, as narrow as can be, or as flat, which makes the greatest sums. */
+static struct matrix greatest_matrix(struct random *random) {
+    static const int32_t others[] = {0, MAX_ENTRY - 1, -(MAX_ENTRY / 2 - 1)};
+    int32_t other = others[below(random, 3)], x = one_in(random, 2) ? 1 : -1, y = one_in(random, 2) ? 1 : -1;
+    return (struct matrix){MAX_ENTRY, other * x, other * y, MAX_ENTRY, other * x * y, MAX_ENTRY};
+}
+
+static void random_ellipsoid(struct random *random, struct plan *plan, int n) {
+    bool small = plan->reach < FULL_REACH, far = one_in(random, 4);
+    int32_t most = small ? 8 : far ? 500 : 2300, parts = small ? 4 : far ? 36 : 8;
+    struct matrix c = rim_matrix(random, most);
+    int32_t p = from_to(random, 1, parts), q = from_to(random, 0, parts), r = from_to(random, 0, parts);
+    int32_t d2 = p * p + q * q + r * r;
+    if (one_in(random, 3)) {
+        c = any_matrix(random);
+        d2 = any_size(random, MAX_D2);
+    } else if (one_in(random, 8)) {
+        c = greatest_matrix(random);
+        d2 = MAX_D2;
+    }
+    random_dimensions(random, plan, n, 3);
+    for (int mean = 0; mean < 3; mean++) add_word(plan, near_value(random, plan));
+    const wide entries[] = {c.c11, c.c12, c.c13, c.c22, c.c23, c.c33};
+    for (int i = 0; i < 6; i++) add_word(plan, (int32_t)entries[i]);
+    add_word(plan, d2);
 }
 
 /* Operands among the regions of the steps before. */
@@ -307,10 +398,10 @@ static void random_operands(struct random *random, struct plan *plan, int count)
 
 static void random_step(struct random *random, struct plan *plan, int n, int32_t region, bool room) {
     bool first = plan->steps == 0;
-    enum gate_kind kind = (enum gate_kind)from_to(random, GATE_BOX, GATE_DECIMAL_ELLIPSE);
+    enum gate_kind kind = (enum gate_kind)from_to(random, GATE_BOX, GATE_ELLIPSOID);
     bool needs_two = kind == GATE_POLYGON || kind == GATE_ELLIPSE || kind == GATE_DECIMAL_ELLIPSE;
     bool needs_other = kind == GATE_AND || kind == GATE_OR || kind == GATE_NOT;
-    if (!room || (needs_two && n < 2) || (needs_other && first)) kind = GATE_BOX;
+    if (!room || (needs_two && n < 2) || (kind == GATE_ELLIPSOID && n < 3) || (needs_other && first)) kind = GATE_BOX;
     int32_t parent = GATE_NO_PARENT;
     if (!first && one_in(random, 2)) parent = plan->words[plan->step_at[below(random, plan->steps)] + 1];
     begin_step(plan, kind, region, parent);
@@ -319,6 +410,7 @@ static void random_step(struct random *random, struct plan *plan, int n, int32_t
     case GATE_POLYGON: random_polygon(random, plan, n); break;
     case GATE_ELLIPSE: random_ellipse(random, plan, n); break;
     case GATE_DECIMAL_ELLIPSE: random_decimal_ellipse(random, plan, n); break;
+    case GATE_ELLIPSOID: random_ellipsoid(random, plan, n); break;
     case GATE_NOT: random_operands(random, plan, 1); break;
     default:
         random_operands(random, plan, one_in(random, 10) ? from_to(random, 60, MAX_OPERANDS) : from_to(random, 2, 5));
@@ -347,7 +439,7 @@ void random_plan(struct random *random, struct plan *plan) {
 static int32_t edge_word(struct random *random) {
     static const int32_t edges[] = {
         INT32_MIN, -2000000001, -2000000000, -16777217, -16777216, -65537, -65536, -65535, -2, -1, 0, 1, 2, 3, 4, 5, 6,
-        7, 8, 9, 24, 27, 63, 64, 65, 127, 128, 129, 514, 516, 4096, 4097, 65535, 65536, 65537, 4096000, 4096001,
+        7, 8, 9, 13, 24, 27, 63, 64, 65, 127, 128, 129, 514, 516, 4096, 4097, 65535, 65536, 65537, 4096000, 4096001,
         16777216, 16777217, 2000000000, 2000000001, INT32_MAX,
     };
     return edges[below(random, sizeof edges / sizeof edges[0])];
@@ -356,7 +448,7 @@ static int32_t edge_word(struct random *random) {
 /* A place in the plan; half of the time within the first words of a step. */
 static size_t random_place(struct random *random, const struct plan *plan) {
     if (plan->steps > 0 && one_in(random, 2)) {
-        size_t place = plan->step_at[below(random, plan->steps)] + below(random, 12);
+        size_t place = plan->step_at[below(random, plan->steps)] + below(random, 17);
         if (place < plan->len) return place;
     }
     return below(random, plan->len);
@@ -381,19 +473,52 @@ static void change_length(struct random *random, struct plan *plan) {
     if (good) plan->words[place] += from_to(random, -3, 3);
 }
 
-/* A matrix: its sign, or c22 such that the determinant is 0. */
-static void change_matrix(struct random *random, struct plan *plan) {
-    if (plan->steps == 0) return;
-    size_t at = plan->step_at[below(random, plan->steps)];
-    int32_t *body = plan->words + at + 4;
-    bool decimal = plan->words[at] == GATE_DECIMAL_ELLIPSE, ellipse = decimal || plan->words[at] == GATE_ELLIPSE;
-    if (!ellipse || at + 12 > plan->len || body[4] <= 0) return;
+static void negate(int32_t *word) { *word = *word == INT32_MIN ? INT32_MIN : -*word; }
+
+/* Of an ellipse: its sign, or c22 such that the determinant is 0. */
+static void change_ellipse(struct random *random, int32_t *body, int32_t max_entry) {
+    if (body[4] <= 0) return;
     if (one_in(random, 2)) {
         int64_t c22 = (int64_t)body[5] * body[5] / body[4];
-        if (c22 <= (decimal ? MAX_DECIMAL_ENTRY : MAX_ENTRY)) body[6] = (int32_t)c22;
+        if (c22 <= max_entry) body[6] = (int32_t)c22;
     } else {
-        for (int i = 4; i < 7; i++) body[i] = body[i] == INT32_MIN ? INT32_MIN : -body[i];
+        for (int i = 4; i < 7; i++) negate(&body[i]);
     }
+}
+
+/*
+ * Of an ellipsoid: its sign; the signs of two entries on the diagonal, with which an upright one's determinant stays above
+ * 0; c33 such that the determinant is 0 or little less; c22 such that the upper left one is; c33 below its range.
+ */
+static void change_ellipsoid(struct random *random, int32_t *body) {
+    int32_t *entries = body + 6, *diagonal[] = {&entries[0], &entries[3], &entries[5]};
+    struct matrix c = {entries[0], entries[1], entries[2], entries[3], entries[4], entries[5]};
+    if (!is_good(&c)) return;
+    switch (below(random, 5)) {
+    case 0:
+        for (int i = 0; i < 6; i++) negate(&entries[i]);
+        break;
+    case 1: {
+        size_t kept = below(random, 3);
+        for (size_t i = 0; i < 3; i++) {
+            if (i != kept) negate(diagonal[i]);
+        }
+        break;
+    }
+    case 2: entries[5] = (int32_t)(part_without_c33(&c) / upper_determinant(&c)); break;
+    case 3: entries[3] = (int32_t)(c.c12 * c.c12 / c.c11); break;
+    default: entries[5] = -MAX_ENTRY - 1;
+    }
+}
+
+/* The matrix of some step, where it is an ellipse or ellipsoid. */
+static void change_matrix(struct random *random, struct plan *plan) {
+    if (plan->steps == 0) return;
+    size_t at = plan->step_at[below(random, plan->steps)], left = at < plan->len ? plan->len - at : 0;
+    int32_t kind = plan->words[at], *body = plan->words + at + 4;
+    if (kind == GATE_ELLIPSE && left >= 12) change_ellipse(random, body, MAX_ENTRY);
+    if (kind == GATE_DECIMAL_ELLIPSE && left >= 12) change_ellipse(random, body, MAX_DECIMAL_ENTRY);
+    if (kind == GATE_ELLIPSOID && left >= 17) change_ellipsoid(random, body);
 }
 
 void damage(struct random *random, struct plan *plan) {
@@ -459,6 +584,37 @@ static void set_on_rim(struct random *random, const int32_t *body, int32_t scale
     event[body[1]] = body[3] + sign * dy;
 }
 
+/* Three whole numbers whose squares add up to `sum`; where there are none, its root and zeros. */
+static void find_squares(struct random *random, int32_t sum, double *roots) {
+    int32_t most = (int32_t)sqrt(sum), from = from_to(random, 0, most);
+    for (int32_t i = 0; i <= most; i++) {
+        int32_t p = (from + i) % (most + 1);
+        for (int32_t q = 0; q * q <= sum - p * p; q++) {
+            int32_t rest = sum - p * p - q * q, r = (int32_t)sqrt(rest);
+            if (r * r != rest) continue;
+            roots[0] = p;
+            roots[1] = q;
+            roots[2] = r;
+            return;
+        }
+    }
+    roots[0] = sqrt(sum);
+    roots[1] = roots[2] = 0;
+}
+
+/* One of the points that rim_matrix names, where the ellipsoid is its own; else one near the rim. */
+static void set_on_ellipsoid(struct random *random, const int32_t *body, int32_t *event) {
+    double c11 = body[6], c12 = body[7], c13 = body[8], c22 = body[9], c23 = body[10], c33 = body[11], squares[3], u[3];
+    double a = sqrt(c11), b = c12 / a, g = c13 / a;
+    double f = sqrt(fmax(c22 - b * b, 0)), h = f > 0 ? (c23 - b * g) / f : 0, k = sqrt(fmax(c33 - g * g - h * h, 0));
+    int32_t order[3];
+    find_squares(random, body[12], squares);
+    shuffled(random, order, 3);
+    for (int i = 0; i < 3; i++) u[i] = one_in(random, 2) ? squares[order[i]] : -squares[order[i]];
+    const double offsets[] = {a * u[0], b * u[0] + f * u[1], g * u[0] + h * u[1] + k * u[2]};
+    for (int i = 0; i < 3; i++) event[body[i]] = (int32_t)(body[3 + i] + offsets[i]);
+}
+
 /* Puts the event on a bound, an edge or the rim of some step; false when that step has none. */
 static bool aim(struct random *random, const struct plan *plan, int32_t *event) {
     const int32_t *step = plan->words + plan->step_at[below(random, plan->steps)], *body = step + 4;
@@ -467,6 +623,7 @@ static bool aim(struct random *random, const struct plan *plan, int32_t *event) 
     case GATE_POLYGON: set_on_edge(random, body, (size_t)step[3], event); return true;
     case GATE_ELLIPSE: set_on_rim(random, body, 1, event); return true;
     case GATE_DECIMAL_ELLIPSE: set_on_rim(random, body, 1000, event); return true;
+    case GATE_ELLIPSOID: set_on_ellipsoid(random, body, event); return true;
     default: return false;
     }
 }

@@ -59,6 +59,9 @@ void ellipses_load(struct plan *plan, int count);
 /* The same with decimals, whose rule passes 64 bits. */
 void decimal_ellipses_load(struct plan *plan, int count);
 
+/* Ellipsoids that hold about half of the events each; n is 3. Their rule passes 64 bits. */
+void ellipsoids_load(struct plan *plan, int count);
+
 /* Events of n values drawn evenly from the whole range; one of 100 is spoilt. */
 void even_events(int32_t *events, int n, size_t count);
 

@@ -66,6 +66,7 @@ int main(void) {
         case 2: polygon_load(&plan, 256); break;
         case 3: ellipses_load(&plan, 8); break;
         case 4: decimal_ellipses_load(&plan, 8); break;
+        case 5: ellipsoids_load(&plan, 8); break;
         default: random_plan(&random, &plan);
         }
         int n = plan.words[0];

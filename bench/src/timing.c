@@ -31,6 +31,8 @@ static const struct shape shapes[] = {
     {ELLIPSES, "8 ellipses", 2, 8},
     {DECIMAL_ELLIPSES, "1 decimal ellipse", 2, 1},
     {DECIMAL_ELLIPSES, "8 decimal ellipses", 2, 8},
+    {ELLIPSOIDS, "1 ellipsoid", 3, 1},
+    {ELLIPSOIDS, "8 ellipsoids", 3, 8},
 };
 enum { SHAPES = sizeof shapes / sizeof shapes[0] };
 
@@ -248,6 +250,7 @@ static void all_tables(size_t count) {
     polygon_tables(count);
     even_table("Ellipses", ELLIPSES, count);
     even_table("Decimal ellipses", DECIMAL_ELLIPSES, count);
+    even_table("Ellipsoids", ELLIPSOIDS, count);
     examples_table();
     call_table();
     linearity_tables(count);

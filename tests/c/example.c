@@ -91,13 +91,24 @@ static void test_example(void) {
 enum position { OUTSIDE, INSIDE, ON_OUTLINE };
 
 /* The event is no member of region 0, a member, or one on the outline. */
-static void expect_position(const char *what, const int32_t *plan, size_t plan_len, int32_t x, int32_t y,
-                            enum position position) {
-    const int32_t event[] = {x, y};
-    struct gate_judgement judgement = gate_judge_event(plan, plan_len, event, LENGTH(event));
+static void expect_event(const char *what, const int32_t *plan, size_t plan_len, const int32_t *event, size_t event_len,
+                         enum position position) {
+    struct gate_judgement judgement = gate_judge_event(plan, plan_len, event, event_len);
     expect_number(judgement.answer.refusal, GATE_PASSES, "event of a shape is judged");
     expect(gate_is_member(judgement.bits, 0) == (position != OUTSIDE), what);
     expect(gate_is_on_outline(judgement.outline, 0) == (position == ON_OUTLINE), what);
+}
+
+static void expect_position(const char *what, const int32_t *plan, size_t plan_len, int32_t x, int32_t y,
+                            enum position position) {
+    const int32_t event[] = {x, y};
+    expect_event(what, plan, plan_len, event, LENGTH(event), position);
+}
+
+static void expect_position_3(const char *what, const int32_t *plan, size_t plan_len, int32_t x, int32_t y, int32_t z,
+                              enum position position) {
+    const int32_t event[] = {x, y, z};
+    expect_event(what, plan, plan_len, event, LENGTH(event), position);
 }
 
 static void test_shapes(void) {
@@ -184,6 +195,46 @@ static void test_shapes(void) {
     static const int32_t other[] = {2, 2, GATE_BOX, 1, -1, 3, 0, 0, 10, GATE_NOT, 0, -1, 1, 2 * 1};
     expect_position("not: outside", other, LENGTH(other), 10, 5, INSIDE);
     expect_position("not: inside", other, LENGTH(other), 9, 5, OUTSIDE);
+}
+
+static void test_ellipsoids(void) {
+    static const int32_t tilted[] = {3, 1, GATE_ELLIPSOID, 0, -1, 13, 0, 1, 2, 0, 0, 0, 4, 2, -2, 5, 1, 3, 9};
+    expect_position_3("ellipsoid holds its mean", tilted, LENGTH(tilted), 0, 0, 0, INSIDE);
+    expect_position_3("ellipsoid holds its rim", tilted, LENGTH(tilted), 2, 5, 3, ON_OUTLINE);
+    expect_position_3("ellipsoid holds its rim opposite", tilted, LENGTH(tilted), -2, -5, -3, ON_OUTLINE);
+    expect_position_3("ellipsoid holds its rim at the greatest x", tilted, LENGTH(tilted), 6, 3, -3, ON_OUTLINE);
+    expect_position_3("ellipsoid holds its rim beside the mean in x", tilted, LENGTH(tilted), 0, 6, 3, ON_OUTLINE);
+    expect_position_3("ellipsoid holds its rim in z alone", tilted, LENGTH(tilted), 0, 0, 3, ON_OUTLINE);
+    expect_position_3("ellipsoid holds what is next to its rim", tilted, LENGTH(tilted), 2, 5, 2, INSIDE);
+    expect_position_3("ellipsoid ends at its rim", tilted, LENGTH(tilted), 2, 5, 4, OUTSIDE);
+    expect_position_3("ellipsoid does not hold its rim with y and z changed over", tilted, LENGTH(tilted), 2, 3, 5, OUTSIDE);
+
+    /* The same over values 3, 0 and 2 of four, around (10, -20, 30). */
+    static const int32_t of_four[] = {4, 1, GATE_ELLIPSOID, 0, -1, 13, 3, 0, 2, 10, -20, 30, 4, 2, -2, 5, 1, 3, 9};
+    static const int32_t on_rim[] = {-15, -65536, 33, 12}, beyond[] = {-15, 0, 34, 12}, within[] = {-15, 65535, 32, 12};
+    expect_event("ellipsoid over three of four values holds its rim", of_four, LENGTH(of_four), on_rim, 4, ON_OUTLINE);
+    expect_event("ellipsoid over three of four values ends at its rim", of_four, LENGTH(of_four), beyond, 4, OUTSIDE);
+    expect_event("ellipsoid over three of four values holds its inside", of_four, LENGTH(of_four), within, 4, INSIDE);
+
+    static const int32_t wide[] = {3, 1, GATE_ELLIPSOID, 0, -1, 13, 0, 1, 2, -65536, -65536, -65536,
+                                   16777216, 0, 0, 16777216, 0, 16777216, 2883};
+    expect_position_3("wide ellipsoid holds its rim", wide, LENGTH(wide), 61440, 61440, 61440, ON_OUTLINE);
+    expect_position_3("wide ellipsoid holds what is next to its rim", wide, LENGTH(wide), 61439, 61440, 61440, INSIDE);
+    expect_position_3("wide ellipsoid ends at its rim", wide, LENGTH(wide), 61440, 61440, 61441, OUTSIDE);
+    expect_position_3("wide ellipsoid, farthest event", wide, LENGTH(wide), 65535, 65535, 65535, OUTSIDE);
+
+    /* Its left side at the farthest event is the greatest that there is. */
+    static const int32_t flat[] = {3, 1, GATE_ELLIPSOID, 0, -1, 13, 0, 1, 2, -65536, -65536, -65536,
+                                   16777216, -8388607, -8388607, 16777216, -8388607, 16777216, 4056};
+    expect_position_3("flat ellipsoid holds its rim", flat, LENGTH(flat), -65484, -65484, -65484, ON_OUTLINE);
+    expect_position_3("flat ellipsoid ends at its rim", flat, LENGTH(flat), -65483, -65483, -65483, OUTSIDE);
+    expect_position_3("flat ellipsoid holds what is next to its rim", flat, LENGTH(flat), -65485, -65485, -65485, INSIDE);
+    expect_position_3("flat ellipsoid, farthest event", flat, LENGTH(flat), 65535, 65535, 65535, OUTSIDE);
+
+    static const int32_t narrow[] = {3, 1, GATE_ELLIPSOID, 0, -1, 13, 0, 1, 2, -65536, -65536, -65536,
+                                     16777216, 16777215, 16777215, 16777216, 16777215, 16777216, 1024};
+    expect_position_3("narrow ellipsoid holds the farthest event", narrow, LENGTH(narrow), 65535, 65535, 65535, INSIDE);
+    expect_position_3("narrow ellipsoid ends beside its axis", narrow, LENGTH(narrow), 65535, 65535, 65534, OUTSIDE);
 }
 
 /* A square, a disc within it by its parent, and regions without an outline that refer to the two. */
@@ -288,7 +339,7 @@ static const struct form_case malformed[] = {
     {"-1 steps", 1, 2, {2, -1}},
     {"words run out before a step", 2, 2, {2, 1}},
     {"kind 0", 2, 3, {2, 1, 0}},
-    {"kind 8", 2, 7, {2, 1, 8, 0, -1, 1, 0}},
+    {"kind 9", 2, 7, {2, 1, 9, 0, -1, 1, 0}},
     {"words run out in a header", 3, 3, {2, 1, 1}},
     {"region not below the step count", 3, 9, {2, 1, 1, 1, -1, 3, 0, 0, 1}},
     {"region set twice", 10, 16, {2, 2, 1, 0, -1, 3, 0, 0, 1, 1, 0, -1, 3, 0, 0, 1}},
@@ -333,6 +384,32 @@ static const struct form_case malformed[] = {
     {"decimal entry below the range", 11, 14, {2, 1, 7, 0, -1, 8, 0, 1, 0, 0, 5, -2000000001, 9, 1}},
     {"decimal D^2 is 0", 13, 14, {2, 1, 7, 0, -1, 8, 0, 1, 0, 0, 5, 6, 9, 0}},
     {"decimal D^2 is 4096001", 13, 14, {2, 1, 7, 0, -1, 8, 0, 1, 0, 0, 5, 6, 9, 4096001}},
+    {"ellipsoid of 12 words", 5, 18, {3, 1, 8, 0, -1, 12, 0, 1, 2, 0, 0, 0, 4, 2, -2, 5, 1, 3}},
+    {"ellipsoid of 14 words", 5, 20, {3, 1, 8, 0, -1, 14, 0, 1, 2, 0, 0, 0, 4, 2, -2, 5, 1, 3, 9, 9}},
+    {"ellipsoid in two dimensions", 8, 19, {2, 1, 8, 0, -1, 13, 0, 1, 2, 0, 0, 0, 4, 2, -2, 5, 1, 3, 9}},
+    {"ellipsoid with dimensions 1, 1, 0", 7, 19, {3, 1, 8, 0, -1, 13, 1, 1, 0, 0, 0, 0, 4, 2, -2, 5, 1, 3, 9}},
+    {"ellipsoid with dimensions 0, 1, 1", 8, 19, {3, 1, 8, 0, -1, 13, 0, 1, 1, 0, 0, 0, 4, 2, -2, 5, 1, 3, 9}},
+    {"ellipsoid with dimensions 1, 0, 1", 8, 19, {3, 1, 8, 0, -1, 13, 1, 0, 1, 0, 0, 0, 4, 2, -2, 5, 1, 3, 9}},
+    {"first mean of an ellipsoid off the range", 9, 19, {3, 1, 8, 0, -1, 13, 0, 1, 2, 65536, 0, 0, 4, 2, -2, 5, 1, 3, 9}},
+    {"last mean of an ellipsoid off the range", 11, 19, {3, 1, 8, 0, -1, 13, 0, 1, 2, 0, 0, -65537, 4, 2, -2, 5, 1, 3, 9}},
+    {"matrix of determinant 0", 12, 19, {3, 1, 8, 0, -1, 13, 0, 1, 2, 0, 0, 0, 4, 2, -2, 5, 1, 2, 9}},
+    {"matrix of a determinant below 0", 12, 19, {3, 1, 8, 0, -1, 13, 0, 1, 2, 0, 0, 0, 4, 2, -2, 5, 1, 1, 9}},
+    {"matrix of upper left determinant 0", 12, 19, {3, 1, 8, 0, -1, 13, 0, 1, 2, 0, 0, 0, 4, 2, 0, 1, 0, 3, 9}},
+    {"c11 and c22 below 0, determinants above", 12, 19, {3, 1, 8, 0, -1, 13, 0, 1, 2, 0, 0, 0, -1, 0, 0, -1, 0, 1, 9}},
+    {"c22 and c33 below 0, determinant above", 12, 19, {3, 1, 8, 0, -1, 13, 0, 1, 2, 0, 0, 0, 1, 0, 0, -1, 0, -1, 9}},
+    {"c11 and c33 below 0, determinant above", 12, 19, {3, 1, 8, 0, -1, 13, 0, 1, 2, 0, 0, 0, -1, 0, 0, 1, 0, -1, 9}},
+    {"greatest matrix of three dimensions, determinant 0", 12, 19,
+     {3, 1, 8, 0, -1, 13, 0, 1, 2, 0, 0, 0, 16777216, -16777216, 16777216, 16777216, -16777216, 16777216, 9}},
+    {"determinant below 0 that 64 bits would have above", 12, 19,
+     {3, 1, 8, 0, -1, 13, 0, 1, 2, 0, 0, 0, 16777216, 0, 0, 16777216, 0, -16777215, 9}},
+    {"bad matrix of an ellipsoid before a bad D^2", 12, 19, {3, 1, 8, 0, -1, 13, 0, 1, 2, 0, 0, 0, 4, 2, -2, 5, 1, 2, 0}},
+    {"bad matrix of an ellipsoid in a plan cut off", 12, 18, {3, 1, 8, 0, -1, 13, 0, 1, 2, 0, 0, 0, 4, 2, -2, 5, 1, 2}},
+    {"matrix of an ellipsoid cut off", 17, 17, {3, 1, 8, 0, -1, 13, 0, 1, 2, 0, 0, 0, 0, 2, -2, 5, 1}},
+    {"c33 off the range before the matrix", 17, 19, {3, 1, 8, 0, -1, 13, 0, 1, 2, 0, 0, 0, 0, 2, -2, 5, 1, 16777217, 9}},
+    {"c23 below the range", 16, 19, {3, 1, 8, 0, -1, 13, 0, 1, 2, 0, 0, 0, 4, 2, -2, 5, -16777217, 3, 9}},
+    {"D^2 of an ellipsoid is 0", 18, 19, {3, 1, 8, 0, -1, 13, 0, 1, 2, 0, 0, 0, 4, 2, -2, 5, 1, 3, 0}},
+    {"D^2 of an ellipsoid is 4097", 18, 19, {3, 1, 8, 0, -1, 13, 0, 1, 2, 0, 0, 0, 4, 2, -2, 5, 1, 3, 4097}},
+    {"word left over behind an ellipsoid", 19, 20, {3, 1, 8, 0, -1, 13, 0, 1, 2, 0, 0, 0, 4, 2, -2, 5, 1, 3, 9, 0}},
     {"and of 64 operands", 5, 6, {2, 1, 4, 0, -1, 64}},
     {"entry below the range", 10, 11, {2, 1, 3, 0, -1, 8, 0, 1, 0, 0, -16777217}},
     {"and of one operand", 12, 14, {2, 2, 1, 0, -1, 3, 0, 0, 1, 4, 1, -1, 1, 0}},
@@ -355,6 +432,11 @@ static const struct form_case good[] = {
     {"greatest matrix", 0, 14, {2, 1, 3, 0, -1, 8, 0, 1, 0, 0, 16777216, -16777215, 16777216, 4096}},
     {"decimal matrix 5, 6, 9", 0, 14, {2, 1, 7, 0, -1, 8, 0, 1, 0, 0, 5, 6, 9, 1}},
     {"greatest decimal matrix", 0, 14, {2, 1, 7, 0, -1, 8, 0, 1, 0, 0, 2000000000, -1999999999, 2000000000, 4096000}},
+    {"ellipsoid of the last dimensions", 0, 19, {8, 1, 8, 0, -1, 13, 7, 5, 6, 65535, -65536, 0, 4, 2, -2, 5, 1, 3, 9}},
+    {"least ellipsoid", 0, 19, {3, 1, 8, 0, -1, 13, 0, 1, 2, 0, 0, 0, 1, 0, 0, 1, 0, 1, 1}},
+    {"greatest upright ellipsoid", 0, 19, {3, 1, 8, 0, -1, 13, 0, 1, 2, 0, 0, 0, 16777216, 0, 0, 16777216, 0, 16777216, 4096}},
+    {"greatest tilted ellipsoid", 0, 19,
+     {3, 1, 8, 0, -1, 13, 0, 1, 2, 0, 0, 0, 16777216, -16777215, 16777215, 16777216, -16777215, 16777216, 4096}},
 };
 
 static void test_form(void) {
@@ -513,11 +595,51 @@ static void test_decimals(void) {
     expect_compiled("a mean with decimals", "dims\tA\tB\nellip\tE\t-\tA\tB\t7.0\t-8\t5\t6\t9\t4\n", GATE_MAX_WORDS, 7, 2, NULL, 0, 0);
 }
 
+/* Lines `ellip3`. */
+static void test_ellipsoid_lines(void) {
+    static const struct {
+        const char *what, *fields; /* the entries and D^2 */
+        uint64_t refusal;
+        int32_t words[7];
+    } cases[] = {
+        {"an ellipsoid", "4\t2\t-2\t5\t1\t3\t9", 0, {4, 2, -2, 5, 1, 3, 9}},
+        {"least ellipsoid", "1\t0\t0\t1\t0\t1\t1", 0, {1, 0, 0, 1, 0, 1, 1}},
+        {"greatest ellipsoid", "16777216\t-16777215\t16777215\t16777216\t-16777215\t16777216\t4096", 0,
+         {16777216, -16777215, 16777215, 16777216, -16777215, 16777216, 4096}},
+        {"an ellipsoid with a field less", "4\t2\t-2\t5\t1\t3", 5, {0}},
+        {"an ellipsoid with a field more", "4\t2\t-2\t5\t1\t3\t9\t9", 5, {0}},
+        {"a point in an entry of an ellipsoid", "4\t2\t-2\t5.0\t1\t3\t9", 7, {0}},
+        {"a point in an ellipsoid's D^2", "4\t2\t-2\t5\t1\t3\t9.0", 7, {0}},
+        {"an ellipsoid's entry above the range", "4\t2\t-2\t5\t1\t16777217\t9", 8, {0}},
+        {"an ellipsoid's entry below the range", "4\t2\t-16777217\t5\t1\t3\t9", 8, {0}},
+        {"an ellipsoid's D^2 of 0", "4\t2\t-2\t5\t1\t3\t0", 8, {0}},
+        {"an ellipsoid's D^2 of 4097", "4\t2\t-2\t5\t1\t3\t4097", 8, {0}},
+        {"an ellipsoid's determinant of 0", "4\t2\t-2\t5\t1\t2\t9", 11, {0}},
+        {"an ellipsoid's upper left determinant of 0", "4\t2\t0\t1\t0\t3\t9", 11, {0}},
+        {"an ellipsoid's c11 and c22 below 0", "-1\t0\t0\t-1\t0\t1\t9", 11, {0}},
+    };
+    for (size_t i = 0; i < LENGTH(cases); i++) {
+        const int32_t *words = cases[i].words;
+        const int32_t plan[] = {3, 1, GATE_ELLIPSOID, 0, -1, 13, 0, 2, 1, 7, -8, 9,
+                                words[0], words[1], words[2], words[3], words[4], words[5], words[6]};
+        char table[160];
+        snprintf(table, sizeof table, "dims\tA\tB\tC\nellip3\tE\t-\tA\tC\tB\t7\t-8\t9\t%s\n", cases[i].fields);
+        if (cases[i].refusal == 0) expect_compiled(cases[i].what, table, GATE_MAX_WORDS, 0, 0, plan, LENGTH(plan), 1);
+        else expect_compiled(cases[i].what, table, GATE_MAX_WORDS, cases[i].refusal, 2, NULL, 0, 0);
+    }
+    expect_compiled("an ellipsoid with a dimension twice", "dims\tA\tB\tC\nellip3\tE\t-\tA\tC\tA\t7\t-8\t9\t4\t2\t-2\t5\t1\t3\t9\n",
+                    GATE_MAX_WORDS, 9, 2, NULL, 0, 0);
+    expect_compiled("an ellipsoid's mean off the range", "dims\tA\tB\tC\nellip3\tE\t-\tA\tB\tC\t7\t-8\t65536\t4\t2\t-2\t5\t1\t3\t9\n",
+                    GATE_MAX_WORDS, 8, 2, NULL, 0, 0);
+}
+
 int main(void) {
     test_example();
     test_compiling();
     test_decimals();
+    test_ellipsoid_lines();
     test_shapes();
+    test_ellipsoids();
     test_outlines();
     test_all_regions();
     test_all_outlines();

@@ -33,6 +33,11 @@ ROOM = 4096         # words of the slice in a question `compile`
 DECIMAL = (b'dims\tA\tB\nellip\tE\t-\tA\tB\t0\t0\t1600800.1\t800200\t1300000\t2250\nevents\n'
            b'60015\t30000\n60016\t30000\n60014\t30000\n0\t-45000\n0\t-45001\n65535\t-65536\n')
 
+# An ellipsoid whose rule passes 64 bits; events on its rim and beside it.
+ELLIPSOID = (b'dims\tA\tB\tC\nellip3\tE\t-\tA\tB\tC\t0\t0\t0\t4000000\t2000000\t-1400000\t3250000\t650000\t2510000\t900\nevents\n'
+             b'20000\t40000\t33000\n20000\t40000\t33001\n20000\t40000\t32999\n60000\t30000\t-21000\n60001\t30000\t-21000\n'
+             b'-40000\t-5000\t1000\n0\t0\t-33000\n0\t0\t-33001\n65535\t-65536\t65535\n')
+
 
 # ---------------------------------------------------------------- seeds
 
@@ -70,7 +75,7 @@ def seeds(options):
                 plans.append((plan, numbers[2 + numbers[0]:]))
     # The longest input, and one byte more.
     events = b'dims\tA\nevents\n' + b'5\n' * 32761
-    inputs += [events, events[:-1] + b'5\n', b'x' * 32767 + b'\n', DECIMAL]
+    inputs += [events, events[:-1] + b'5\n', b'x' * 32767 + b'\n', DECIMAL, ELLIPSOID]
     for data in inputs:
         table, lines, _, _ = gates.part_input(data)
         number, _, words, _ = gates.compile_table(table, ROOM)
