@@ -7,8 +7,10 @@
 The events are made up, not measured: clusters of cells and beads on a 16 bit scale, drawn
 from a fixed seed. Only random(), whole numbers and fractions are used, so every run writes the same bytes.
 `rim` has the same clusters on 256 channels, so that one unit can be seen in a picture, `clusters` on 1,024.
+`species` has two clusters of its own, which overlap in each pair of three dimensions and not in all three.
 """
 
+import itertools
 import math
 import os
 import random
@@ -31,6 +33,15 @@ CLUSTERS = {
     'beads': ((31000, 45000, 30500, 55500), (350, 350, 350, 350), 0),
 }
 
+# Two cryptophytes: the means of three dimensions, then how far the size of a cell moves each of them, how far its
+# phycoerythrin does, and how far a deviate that moves RED alone. But for that one, RED is 0.7 FSC + 0.7 ORANGE and an amount
+# of the species, and the two amounts are 2,600 apart.
+THREE = ('FSC', 'ORANGE', 'RED')
+SPECIES = {
+    'teleaulax': ((30000, 27000, 36000), ((3000, 600, 2520), (0, 3000, 2100), (0, 0, 350))),
+    'rhodomonas': ((29000, 26200, 37340), ((3200, 500, 2590), (0, 2800, 1960), (0, 0, 350))),
+}
+
 
 def spread(rng):
     """Nearly a normal deviate: twelve even ones added up."""
@@ -38,10 +49,21 @@ def spread(rng):
 
 
 def cell(rng, name):
-    middle, width, size = CLUSTERS[name]
-    bigger = size * spread(rng)
-    values = [round(m + w * spread(rng) + bigger) for m, w in zip(middle, width)]
+    if name in SPECIES:
+        three = dict(zip(THREE, moved(name, [spread(rng) for _ in THREE])))
+        values = [three.get(dimension, 0) for dimension in DIMENSIONS]
+    else:
+        middle, width, size = CLUSTERS[name]
+        bigger = size * spread(rng)
+        values = [round(m + w * spread(rng) + bigger) for m, w in zip(middle, width)]
     return [min(max(value, 0), SCALE) for value in values]
+
+
+def moved(name, deviates):
+    """The cell of a species that three deviates give, in the order of THREE."""
+    means, moves = SPECIES[name]
+    return [round(mean + sum(deviate * move for deviate, move in zip(deviates, column)))
+            for mean, column in zip(means, zip(*moves))]
 
 
 def sample(rng, numbers):
@@ -191,15 +213,51 @@ def clusters():
     return lines, numbers, []
 
 
+def covariance(name):
+    """The covariance matrix of a species, whole: its entries by pairs of dimensions, row by row from the diagonal on."""
+    moves = dict(zip(THREE, zip(*SPECIES[name][1])))
+    return {(a, b): sum(x * y for x, y in zip(moves[a], moves[b]))
+            for a, b in itertools.combinations_with_replacement(THREE, 2)}
+
+
+def species():
+    d2 = '11'
+    lines = [['dims', *THREE]]
+    for name, (means, _) in SPECIES.items():
+        lines.append(['ellip3', name.capitalize(), '-', *THREE, *map(str, means), *map(str, covariance(name).values()), d2])
+    lines.append(['and', 'Both', '-', *map(str.capitalize, SPECIES)])
+    # The projections on each pair, and who is in both of a pair; then who is in all six.
+    pairs = list(itertools.combinations(THREE, 2))
+    for a, b in pairs:
+        projections = []
+        for name, (means, _) in SPECIES.items():
+            mean, entry = dict(zip(THREE, means)), covariance(name)
+            projections.append('%s-%s-%s' % (name[:4].capitalize(), a, b))
+            lines.append(['ellip', projections[-1], '-', a, b,
+                          *map(str, (mean[a], mean[b], entry[a, a], entry[a, b], entry[b, b])), d2])
+        lines.append(['and', 'Both-%s-%s' % (a, b), '-', *projections])
+    lines.append(['and', 'Both-all-pairs', '-', *('Both-%s-%s' % pair for pair in pairs)])
+    numbers = {'prochlorococcus': 30, 'synechococcus': 40, 'teleaulax': 120, 'rhodomonas': 120}
+    edge = []
+    # The squares of the deviates add up to D², so the event is on the surface; then one unit of RED further out, and further in.
+    for name, deviates in itertools.product(SPECIES, ((3, 1, 1), (-1, 3, -1), (1, -1, -3))):
+        fsc, orange, red = moved(name, deviates)
+        out = 1 if deviates[2] > 0 else -1
+        edge += [[fsc, orange, red], [fsc, orange, red + out], [fsc, orange, red - out]]
+    # Midway between the means: in all six projections, in neither ellipsoid.
+    edge.append([sum(values) // 2 for values in zip(*(means for means, _ in SPECIES.values()))])
+    return lines, numbers, edge
+
+
 MADE = {'quadrants': quadrants, 'polygon': polygon, 'ellipses': ellipses, 'boolean': boolean}
 
-# In channels. Not in MADE, from which bench/ makes loads of the whole scale that each earlier counter takes.
-IN_CHANNELS = {'rim': rim, 'clusters': clusters}
-NAMES = [*MADE, *IN_CHANNELS]
+# In channels, or with ellipsoids. Not in MADE, from which bench/ makes loads of the whole scale that each earlier counter takes.
+OTHERS = {'rim': rim, 'clusters': clusters, 'species': species}
+NAMES = [*MADE, *OTHERS]
 
 
 def text(name):
-    lines, numbers, edge = (MADE.get(name) or IN_CHANNELS[name])()
+    lines, numbers, edge = (MADE.get(name) or OTHERS[name])()
     cells = sample(random.Random('gate counter: ' + name), numbers)
     events = [[values[column] // UNITS.get(name, 1) for column in columns(lines)] for values in cells]
     if name == 'rim':

@@ -14,11 +14,15 @@ of them is a band. A solid edge belongs to the box, a dashed one does not. A qua
 lower edges, since its upper ones are the lower ones of others. The fill shows the shape within those of its
 parents that are drawn. `and`, `or` and `not` have no outline and stand in the legend only.
 
+Ellipsoids: an `ellip3` is drawn over two of its three dimensions, as the outline of its projection on them,
+dash-dotted; its row in the legend says so. An event within that outline may lie outside the ellipsoid in the third.
+
 Events: a dot has the colour of the first region in the table that the event is a member of. A spoilt event
 is a cross; where its values lie off the picture, at the frame.
 
 Outlines: a dot is circled when the event is a member of a region and on the outline of that region's own shape,
-an edge of its polygon or the rim of its ellipse, drawn or not. Boxes, quadrants and combinations have none.
+an edge of its polygon, the rim of its ellipse or the surface of its ellipsoid, drawn or not. Boxes, quadrants and combinations
+have none.
 
 The legend has gatecount's names and counts, how many events taken are in no region and, where there are
 some, how many are on an outline.
@@ -88,7 +92,8 @@ def read_input(data):
 Region = collections.namedtuple('Region', 'name parent shape colour note')
 
 # Shapes: ('box', {dimension: (low or None, high or None)}), ('quadrant', the same),
-#         ('poly', dimensions, points), ('ellip', dimensions, numbers), None for a combination.
+#         ('poly', dimensions, points), ('ellip', dimensions, numbers), ('projection', the same) for an ellipsoid over
+#         two of its dimensions, None for a combination, and for an ellipsoid over others.
 
 
 def number(field):
@@ -114,6 +119,15 @@ def quadrant_bounds(gate, representatives):
     return found
 
 
+def projection(gate, x, y):
+    """The ellipse that an ellipsoid fills over two of its dimensions: their means and entries, the same D^2."""
+    if x not in gate.dimensions or y not in gate.dimensions:
+        return None
+    means, rows, d2 = gates.ellipsoid_numbers(gate)
+    a, b = gate.dimensions.index(x), gate.dimensions.index(y)
+    return 'projection', (x, y), [means[a], means[b], rows[a][a], rows[a][b], rows[b][b], d2]
+
+
 def colour_of(region):
     """The palette, and past its end hues far apart from one to the next."""
     if region < len(COLOURS):
@@ -121,8 +135,8 @@ def colour_of(region):
     return 'hsl(%d,55%%,42%%)' % (360 * (region - len(COLOURS)) * 0.381966 % 360)
 
 
-def regions_of(given):
-    """The regions in table order with their shapes."""
+def regions_of(given, x, y):
+    """The regions in table order with their shapes, those of ellipsoids in the plane of the picture."""
     found = []
     for gate in given.gates:
         kind = gate.kind.decode()
@@ -136,12 +150,15 @@ def regions_of(given):
             shapes = [(gate.name, ('poly', gate.dimensions, list(zip(values[0::2], values[1::2]))))]
         elif kind == 'ellip':
             shapes = [(gate.name, ('ellip', gate.dimensions, gates.ellipse_numbers(gate)))]
+        elif kind == 'ellip3':
+            shapes = [(gate.name, projection(gate, x, y))]
         else:
             shapes = [(gate.name, None)]
         for name, shape in shapes:
             parent = None if gate.parent == b'-' else gate.parent
-            note = kind if parent is None else '%s, parent %s' % (kind, parent.decode())
-            found.append(Region(name, parent, shape, colour_of(len(found)), note))
+            notes = [kind] + ['projection'] * (shape is not None and shape[0] == 'projection')
+            notes += [] if parent is None else ['parent ' + parent.decode()]
+            found.append(Region(name, parent, shape, colour_of(len(found)), ', '.join(notes)))
     return found
 
 
@@ -219,7 +236,7 @@ def at(value):
 class Picture:
     def __init__(self, given, x, y, x_range, y_range, title):
         self.given, self.x, self.y, self.title = given, x, y, title
-        self.regions = regions_of(given)
+        self.regions = regions_of(given, x, y)
         self.drawn = {region.name: region for region in self.regions if in_plane(region.shape, x, y)}
         xs, ys = [], []
         for region in self.drawn.values():
@@ -332,8 +349,9 @@ class Picture:
                     self.add('<line x1="%s" y1="%s" x2="%s" y2="%s" stroke="%s" stroke-width="1.8"%s/>' % (
                         at(x1), at(y1), at(x2), at(y2), region.colour, dashed))
             return
-        self.add('%s fill="none" stroke="%s" stroke-width="1.8"/>' % (self.area(region), region.colour))
-        if shape[0] == 'ellip':
+        dashes = ' stroke-dasharray="9 4 2 4"' if shape[0] == 'projection' else ''
+        self.add('%s fill="none" stroke="%s" stroke-width="1.8"%s/>' % (self.area(region), region.colour, dashes))
+        if shape[0] in ('ellip', 'projection'):
             x, y = self.axes(shape)[:2]
             self.add('<path d="M%s %sh8M%s %sv8" stroke="%s" stroke-width="1.2"/>' % (
                 at(x - 4), at(y), at(x), at(y - 4), region.colour))
@@ -431,8 +449,8 @@ class Picture:
         self.add('<g clip-path="url(#frame)">')
         for region in self.drawn.values():
             self.fill(region)
-        for region in self.drawn.values():
-            self.outline(region)
+        for region in sorted(self.drawn.values(), key=lambda region: region.shape[0] == 'projection'):
+            self.outline(region)        # projections last: they may lie on an ellipse, which then shows between the dashes
         self.add('</g>')
 
     def place_of(self, place):
@@ -540,6 +558,8 @@ class Picture:
             notes += ['Circled: on the outline of a region', 'that holds the event.']
         if any(shape[0] == 'box' for shape in (region.shape for region in self.drawn.values())):
             notes += ['Solid edge: in the box; dashed: not.']
+        if any(shape[0] == 'projection' for shape in (region.shape for region in self.drawn.values())):
+            notes += ['Dash-dotted: projection of an ellipsoid;', 'an event within it may be no member.']
         if len(self.drawn) < len(self.regions):
             notes += ['Dotted swatch: no outline in this plane.']
         y += 6
