@@ -22,6 +22,7 @@ REQUESTS = {
     'a': 'counter/specs/Outlines counter/specs/Positions gates/specs/Outlines tables/specs/Judging tables/specs/Outlines'.split(),
     'b': 'decimals/specs/Decimals counter/specs/DecimalEllipse plans/specs/NewWords tables/specs/Floats'.split(),
     'c': ['counter/specs/Walk'],
+    'd': 'plans/specs/Symmetric counter/specs/Ellipsoid'.split(),
 }
 
 
