@@ -38,7 +38,8 @@ tiltedCases =
     ∷ is (outside (tilted (pos 93) (pos 202) (pos 301))) true
     ∷ []
 
--- the greatest entries: a ball of radius 4,096 by D² = 1, both sides 2^72; of radius 65,536 and 131,072 by 256 and 1,024
+-- the greatest entries: around (−65,536, 0, 0) a ball of radius 4,096 by D² = 1, where both sides are 2^72, one of 65,536 by 256, where they are 2^80, and one
+-- of 131,072 by 1,024, which reaches just beyond the scale
 abbrev ball : ℕ → ℤ → ℤ → ℤ → Position
 ball d2 x y z =
     ellipsoidPosition (negsuc 65535) (pos 0) (pos 0) (symmetric (pos 16777216) (pos 0) (pos 0) (pos 16777216) (pos 0) (pos 16777216)) (pos d2) x y z
@@ -49,7 +50,7 @@ ballCases =
     ∷ is (outside (ball 1 (negsuc 61438) (pos 0) (pos 0))) true
     ∷ is (outside (ball 1 (negsuc 61439) (pos 0) (pos 1))) true
     ∷ is (inside (ball 1 (negsuc 61440) (pos 90) (pos 0))) true
-    ∷ is (isOnOutline (ball 1024 (pos 65535) (pos 0) (pos 0))) false
+    ∷ is (isOnOutline (ball 256 (pos 0) (pos 0) (pos 0))) true
     ∷ is (inside (ball 1024 (pos 65535) (pos 0) (pos 0))) true
     ∷ is (isOnOutline (ball 1 (negsuc 65535) (negsuc 4095) (pos 0))) true
     ∷ is (outside (ball 256 (pos 65535) (negsuc 65535) (pos 65535))) true
@@ -66,13 +67,20 @@ minorCases =
     ∷ is (matrix3Good (symmetric (pos 1) (pos 1) (pos 1) (pos 2) (pos 1) (pos 2))) true
     ∷ []
 
--- the first one as the only step of a plan, with the words 6 to 11 of its body given
+-- an ellipsoid as the only step of a plan: its dimensions, means, entries and D²
+abbrev planOfOne : List ℤ → List ℤ → List ℤ → ℤ → List ℤ
+planOfOne dimensions means entries d2 =
+    pos 3 ∷ pos 1 ∷ pos 8 ∷ pos 0 ∷ negsuc 0 ∷ pos 13 ∷ (dimensions ++ (means ++ (entries ++ (d2 ∷ []))))
+
+-- the first one, with other entries, and others of its numbers
 abbrev planOfEntries : List ℤ → List ℤ
-planOfEntries entries =
-    pos 3 ∷ pos 1 ∷ pos 8 ∷ pos 0 ∷ negsuc 0 ∷ pos 13 ∷ pos 0 ∷ pos 1 ∷ pos 2 ∷ pos 100 ∷ pos 200 ∷ pos 300 ∷ (entries ++ (pos 7 ∷ []))
+planOfEntries entries = planOfOne (pos 0 ∷ pos 1 ∷ pos 2 ∷ []) (pos 100 ∷ pos 200 ∷ pos 300 ∷ []) entries (pos 7)
+
+abbrev tiltedEntries : List ℤ
+tiltedEntries = pos 7 ∷ pos 2 ∷ pos 1 ∷ pos 5 ∷ negsuc 0 ∷ pos 3 ∷ []
 
 abbrev pub tiltedPlan : List ℤ
-tiltedPlan = planOfEntries (pos 7 ∷ pos 2 ∷ pos 1 ∷ pos 5 ∷ negsuc 0 ∷ pos 3 ∷ [])
+tiltedPlan = planOfEntries tiltedEntries
 
 abbrev refusedAt : Verdict → ℕ → Bool
 refusedAt v place = eqb (v .number) 22 && eqb (v .place) place
@@ -87,7 +95,15 @@ pub planCases : List Case
 planCases =
     is (eqb (checkOf tiltedPlan .number) 0) true
     ∷ is (refusedAt (checkOf (planOfEntries (pos 1 ∷ pos 1 ∷ pos 1 ∷ pos 2 ∷ pos 1 ∷ pos 1 ∷ []))) 12) true
-    ∷ is (refusedAt (checkOf (planOfEntries (pos 1 ∷ pos 1 ∷ pos 1 ∷ pos 2 ∷ pos 1 ∷ pos 16777217 ∷ []))) 17) true
+    ∷ is (refusedAt (checkOf (planOfEntries (negsuc 1 ∷ pos 1 ∷ pos 1 ∷ pos 2 ∷ negsuc 0 ∷ pos 16777217 ∷ []))) 17) true
+    ∷ is (refusedAt (checkOf (planOfEntries (negsuc 1 ∷ pos 16777217 ∷ pos 1 ∷ pos 2 ∷ negsuc 0 ∷ pos 2 ∷ []))) 13) true
+    ∷ is (refusedAt (checkOf (planOfEntries (negsuc 16777216 ∷ pos 1 ∷ pos 1 ∷ pos 2 ∷ negsuc 0 ∷ pos 2 ∷ []))) 12) true
+    ∷ is (refusedAt (checkOf (planOfOne (pos 0 ∷ pos 1 ∷ pos 1 ∷ []) (pos 0 ∷ pos 0 ∷ pos 0 ∷ []) tiltedEntries (pos 7))) 8) true
+    ∷ is (refusedAt (checkOf (planOfOne (pos 0 ∷ pos 1 ∷ pos 3 ∷ []) (pos 0 ∷ pos 0 ∷ pos 0 ∷ []) tiltedEntries (pos 7))) 8) true
+    ∷ is (refusedAt (checkOf (planOfOne (pos 2 ∷ pos 1 ∷ pos 0 ∷ []) (pos 0 ∷ pos 0 ∷ pos 65536 ∷ []) tiltedEntries (pos 7))) 11) true
+    ∷ is (refusedAt (checkOf (planOfOne (pos 2 ∷ pos 1 ∷ pos 0 ∷ []) (pos 0 ∷ pos 0 ∷ pos 65535 ∷ []) tiltedEntries (pos 4097))) 18) true
+    ∷ is (refusedAt (checkOf (planOfOne (pos 2 ∷ pos 1 ∷ pos 0 ∷ []) (pos 0 ∷ pos 0 ∷ pos 65535 ∷ []) tiltedEntries (pos 0))) 18) true
+    ∷ is (eqb (checkOf (planOfOne (pos 2 ∷ pos 1 ∷ pos 0 ∷ []) (pos 0 ∷ pos 0 ∷ negsuc 65535 ∷ []) tiltedEntries (pos 4096)) .number) 0) true
     ∷ is (refusedAt (checkOf (part tiltedPlan 0 17)) 17) true
     ∷ is (refusedAt (checkOf (part (planOfEntries (pos 0 ∷ pos 0 ∷ pos 0 ∷ pos 0 ∷ pos 0 ∷ pos 0 ∷ [])) 0 17)) 17) true
     ∷ is (refusedAt (checkOf (part (planOfEntries (pos 0 ∷ pos 0 ∷ pos 0 ∷ pos 0 ∷ pos 0 ∷ pos 0 ∷ [])) 0 18)) 12) true
@@ -114,7 +130,7 @@ unfolding planCases all any howMany firstBad word number inRange onScale part ha
     matrixGood matrix3Good matrix3Word ellipsoidWord kindAt regionAt lengthAt bodyAt nextAt headWordFor stepsWordFor stepsEnd width stepCount wordGoodFor
     planEnd lowestBadFor formFor checkFor valueIn ellipsoidIn inEllipsoid parentIn stepIn settled bitsOf valueGood taken firstSpoilt members judgePassed judgeOf
     ellipsoidPosition ellipsoidOn stepOn outlineFrom outlineOf
-plan-cases = (refl, (refl, (refl, (refl, (refl, (refl, (refl, (refl, (refl, (refl, tt))))))))))
+plan-cases = (refl, (refl, (refl, (refl, (refl, (refl, (refl, (refl, (refl, (refl, (refl, (refl, (refl, (refl, (refl, (refl, (refl, (refl, tt))))))))))))))))))
 
 pub ellipsoid-cases : Hold tiltedCases × Hold ballCases × Hold minorCases × Hold planCases
 ellipsoid-cases = (tilted-cases, ball-cases, minor-cases, plan-cases)

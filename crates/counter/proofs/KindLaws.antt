@@ -26,7 +26,7 @@ use Rattle.counter.specs.Inner.Ranges.{OnScale, Vertices, Fields, SolidF
 use Rattle.counter.specs.Members.{valueIn, boxIn, polygonIn, ellipseIn, decimalEllipseIn, ellipsoidIn, operandIn, shapeIn}
 use Rattle.counter.specs.Positions.{notOutside, isOnOutline}
 use Rattle.counter.specs.Outlines.{polygonOn, ellipseOn, decimalEllipseOn, ellipsoidOn, shapeOn}
-use Rattle.counter.specs.Inner.Steps.{planeOf, ovalOf, spaceOf, stepOf, headOf, positionIn, BoxBody, PlaneWithin, SpaceWithin, SolidBody, Operands, StepShaped}
+use Rattle.counter.specs.Inner.Steps.{planeOf, ovalOf, spaceOf, solidOf, stepOf, headOf, positionIn, BoxBody, PlaneWithin, SpaceWithin, SolidWithin, Operands, StepShaped}
 use Rattle.counter.specs.declared.steps.Head.{Head}
 use Rattle.counter.proofs.PositionLaws.{polygon-in, ellipse-in, decimal-in, ellipsoid-in, without-outline-tells}
 
@@ -126,28 +126,26 @@ module _ (n k set : ℕ) (body : List ℤ) where
       record { x-within = dimension-below n body 1 0 e; y-within = dimension-below n body 1 1 f; z-within = dimension-below n body 1 2 g }
 
   ellipsoid-body : eqb (length body) 13 ≡ true → GoodWords K.Ellipsoid n k set body
-      → SpaceWithin n (spaceOf body) × SolidBody body
-  unfolding ellipsoidWord matrix3Word
+      → SpaceWithin n (spaceOf body) × (13 ≤ length body) × SolidWithin (solidOf body)
+  unfolding solidOf ellipsoidWord matrix3Word
   ellipsoid-body e good =
       let m = eqb-true (length body) 13 e in
       let at : (i : ℕ) → i < 13 → ellipsoidWord n body i ≡ true = λ i l. good i (omega arith) in (
         space-within (at 0 (lit< tt)) (at 1 (lit< tt)) (at 2 (lit< tt)),
-        (
-          omega arith,
-          record {
-            m1-on = on-scale (word body 3) (at 3 (lit< tt));
-            m2-on = on-scale (word body 4) (at 4 (lit< tt));
-            m3-on = on-scale (word body 5) (at 5 (lit< tt));
-            c11-in = entry-in 16777216 (word body 6) (and-both (entry (pos 16777216) (word body 6)) _ (at 6 (lit< tt)) .0);
-            c12-in = entry-in 16777216 (word body 7) (at 7 (lit< tt));
-            c13-in = entry-in 16777216 (word body 8) (at 8 (lit< tt));
-            c22-in = entry-in 16777216 (word body 9) (at 9 (lit< tt));
-            c23-in = entry-in 16777216 (word body 10) (at 10 (lit< tt));
-            c33-in = entry-in 16777216 (word body 11) (at 11 (lit< tt));
-            d2-from = range-from (pos 1) (pos 4096) (word body 12) (at 12 (lit< tt));
-            d2-to = range-to (pos 1) (pos 4096) (word body 12) (at 12 (lit< tt));
-          },
-        ),
+        omega arith,
+        record {
+          m1-on = on-scale (word body 3) (at 3 (lit< tt));
+          m2-on = on-scale (word body 4) (at 4 (lit< tt));
+          m3-on = on-scale (word body 5) (at 5 (lit< tt));
+          c11-in = entry-in 16777216 (word body 6) (and-both (entry (pos 16777216) (word body 6)) _ (at 6 (lit< tt)) .0);
+          c12-in = entry-in 16777216 (word body 7) (at 7 (lit< tt));
+          c13-in = entry-in 16777216 (word body 8) (at 8 (lit< tt));
+          c22-in = entry-in 16777216 (word body 9) (at 9 (lit< tt));
+          c23-in = entry-in 16777216 (word body 10) (at 10 (lit< tt));
+          c33-in = entry-in 16777216 (word body 11) (at 11 (lit< tt));
+          d2-from = range-from (pos 1) (pos 4096) (word body 12) (at 12 (lit< tt));
+          d2-to = range-to (pos 1) (pos 4096) (word body 12) (at 12 (lit< tt));
+        },
       )
 
   operands : 0 < length body → k ≤ 64 → ((i : ℕ) → i < length body → operandWord k set body i ≡ true) → Operands body
@@ -175,7 +173,7 @@ shaped K.Unknown h n k set body few e good = tt
 pub position-tells : (kind : Kind) (h : Head) (event : List ℤ) (bits : ℕ) (body : List ℤ)
     → (notOutside (positionIn (stepOf kind h body) event bits body) ≡ shapeIn kind event bits body)
     × (isOnOutline (positionIn (stepOf kind h body) event bits body) ≡ shapeOn kind event body)
-unfolding planeOf ovalOf spaceOf polygonIn ellipseIn decimalEllipseIn ellipsoidIn polygonOn ellipseOn decimalEllipseOn ellipsoidOn valueIn
+unfolding planeOf ovalOf spaceOf solidOf polygonIn ellipseIn decimalEllipseIn ellipsoidIn polygonOn ellipseOn decimalEllipseOn ellipsoidOn valueIn
 position-tells K.Box h event bits body = without-outline-tells (boxIn event body)
 position-tells K.Polygon h event bits body = (polygon-in _ _ _, refl)
 position-tells K.Ellipse h event bits body = (ellipse-in _ _ _ _ _ _ _ _, refl)

@@ -1,19 +1,19 @@
 // Sets of a group's events, as the bits of a number: bit e for event e of at most 64. A step is asked of a set at once.
 ghost use mathlib.Core.Path.{_≡_};
-ghost use mathlib.Core.Bool.{false, _&&_};
+ghost use mathlib.Core.Bool.{true, false, _&&_};
 ghost use lib.IntN.{pos, _-ℤ_};
 ghost use lib.Signed.{leZ, ltZ, _<ℤ_};
 ghost use Prim.Native.Nat.{ℕ, _+_, _*_, _/_, _%_, _<_, _≤_};
 ghost use lib.ListN.{length};
 ghost use Rattle.counter.specs.Inner.Steps.{BoxBody, Operands, Shaped, isEllipsoid, StepShaped, Sound};
-ghost use Rattle.counter.specs.declared.steps.Shape.the-variants.{Box, Ellipsoid};
+ghost use Rattle.counter.specs.declared.steps.Shape.the-variants.{Box};
 ghost use Rattle.counter.specs.Inner.Groups.{First, SetOf, Those, Candidates, firstOf, tripleAt, triplesAt, Agree, Matched, outside, operandAt, allAt, anyAt, parentAt, drawnAt, shapeAt, memberBy};
 use crate::reading::number_in;
 use crate::reading::settle;
 use crate::shapes::in_ellipsoid;
 use crate::shapes::in_shape;
+use crate::shapes::is_ellipsoid;
 use crate::steps::Shape;
-use crate::steps::Space;
 use crate::steps::Step;
 use crate::steps::head_of;
 use crate::steps::parent_of;
@@ -73,7 +73,7 @@ fn any_of(sets: &[u64; 64], body: &[i32]) -> u64
     found
 }
 
-// The events of a set that are in a shape, asked one by one.
+// The events of a set that are in a shape that is no ellipsoid, asked one by one.
 fn each_of(group: &[i32], n: usize, g: usize, among: u64, body: &[i32], shape: Shape) -> u64
     requires { ⌜ Candidates n (now group) g among × (n ≤ 8) × Shaped shape n (now body) × (isEllipsoid shape ≡ false) ⌝ }
     ensures { λ r. ⌜ Those among (drawnAt shape n (now (group .entry)) (now (body .entry))) r ⌝ }
@@ -90,17 +90,17 @@ fn each_of(group: &[i32], n: usize, g: usize, among: u64, body: &[i32], shape: S
     found
 }
 
-// The events of a set that are in an ellipsoid. In a loop of its own its numbers are read once, and the loop over other shapes stays small.
-fn ellipsoid_of(group: &[i32], n: usize, g: usize, among: u64, body: &[i32], space: Space) -> u64
-    requires { ⌜ Candidates n (now group) g among × Shaped (Ellipsoid space) n (now body) ⌝ }
-    ensures { λ r. ⌜ Those among (drawnAt (Ellipsoid space) n (now (group .entry)) (now (body .entry))) r ⌝ }
+// The events of a set that are in an ellipsoid. In a loop of its own its cofactors are computed once, and the loop over other shapes stays small.
+fn ellipsoid_of(group: &[i32], n: usize, g: usize, among: u64, body: &[i32], shape: Shape) -> u64
+    requires { ⌜ Candidates n (now group) g among × Shaped shape n (now body) × (isEllipsoid shape ≡ true) ⌝ }
+    ensures { λ r. ⌜ Those among (drawnAt shape n (now (group .entry)) (now (body .entry))) r ⌝ }
 {
     let mut rest = among;
     let mut found = 0u64;
     while 0 < rest {
         let e = first_of(rest);
         let start = e * n;
-        let member = in_ellipsoid(&group[start..start + n], body, space);
+        let member = in_ellipsoid(&group[start..start + n], body, shape);
         found = settle(found, e, member);
         rest = rest & (rest - 1);
     }
@@ -174,13 +174,12 @@ fn drawn_of(group: &[i32], n: usize, g: usize, among: u64, body: &[i32], shape: 
     requires { ⌜ Candidates n (now group) g among × (n ≤ 8) × Shaped shape n (now body) ⌝ }
     ensures { λ r. ⌜ Those among (drawnAt shape n (now (group .entry)) (now (body .entry))) r ⌝ }
 {
+    if is_ellipsoid(shape) {
+        return ellipsoid_of(group, n, g, among, body, shape);
+    }
     match shape {
         Shape::Box => box_of(group, n, g, among, body),
-        Shape::Ellipsoid(space) => ellipsoid_of(group, n, g, among, body, space),
-        Shape::Nothing => each_of(group, n, g, among, body, shape),
-        Shape::Polygon(_) => each_of(group, n, g, among, body, shape),
-        Shape::Ellipse(_, _) => each_of(group, n, g, among, body, shape),
-        Shape::DecimalEllipse(_, _) => each_of(group, n, g, among, body, shape),
+        _ => each_of(group, n, g, among, body, shape),
     }
 }
 

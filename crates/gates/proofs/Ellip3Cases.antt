@@ -41,7 +41,7 @@ pub ellipsoids-earn :
     (earn 99 ("A B C 0 0 0 7 2 1 5 -1 3 7" ∷ "C A B -65536 65535 0 16777216 0 0 16777216 0 16777216 4096" ∷ [])
     && (earn 5 ("A B C 0 0 0 7 2 1 5 -1 3" ∷ "A B C 0 0 0 7 2 1 5 -1 3 7 1" ∷ "A B 0 0 7 2 5 7" ∷ [])
     && (earn 7 ("A B C 0 0 0 7.0 2 1 5 -1 3 7" ∷ "A B C 0 0 0 7 2 1 5 -1 3 7.5" ∷ "A B C 0 0 0 7 2 * 5 -1 3 7" ∷ "A B C 0 0.5 0 7 2 1 5 -1 3 7" ∷ [])
-    && (earn 8 ("A B C 0 0 65536 7 2 1 5 -1 3 7" ∷ "A B C 0 0 0 7 2 1 5 -1 16777217 7" ∷ "A B C 0 0 0 7 2 1 5 -1 3 0" ∷ [])
+    && (earn 8 ("A B C 0 0 65536 7 2 1 5 -1 3 7" ∷ "A B C 0 0 0 7 2 1 5 -1 16777217 7" ∷ "A B C 0 0 0 7 2 1 5 -1 3 0" ∷ "A B C 0 0 0 7 2 1 5 -1 3 4097" ∷ [])
     && (earn 9 ("A B A 0 0 0 7 2 1 5 -1 3 7" ∷ "A B D 0 0 0 7 2 1 5 -1 3 7" ∷ [])
     && earn 11 ("A B C 0 0 0 -1 0 0 -1 0 1 1" ∷ "A B C 0 0 0 1 0 0 -1 0 -1 1" ∷ "A B C 0 0 0 1 0 0 1 0 -1 1" ∷ "A B C 0 0 0 1 1 1 2 1 1 1" ∷ []))))))
     ≡ true
@@ -54,7 +54,7 @@ unfolding any same fields hasPoint carriesPoint kindNamed
 ellipsoid-kind = refl
 
 pub ellipsoid-words :
-    leafWords (ellip3 head (ellipsoid (bytes "B C A -5 6 0 7 2 1 5 -1 3 4")))
-    ≡ pos 1 ∷ pos 2 ∷ pos 0 ∷ negsuc 4 ∷ pos 6 ∷ pos 0 ∷ pos 7 ∷ pos 2 ∷ pos 1 ∷ pos 5 ∷ negsuc 0 ∷ pos 3 ∷ pos 4 ∷ []
+    leafWords (ellip3 head (ellipsoid (bytes "C A B -5 6 0 7 2 1 5 -1 3 4")))
+    ≡ pos 2 ∷ pos 0 ∷ pos 1 ∷ negsuc 4 ∷ pos 6 ∷ pos 0 ∷ pos 7 ∷ pos 2 ∷ pos 1 ∷ pos 5 ∷ negsuc 0 ∷ pos 3 ∷ pos 4 ∷ []
 unfolding same fields isNegative unsigned isPositive isNumber numberValue clampTo clamp dimensionOf valueOf axesWord
 ellipsoid-words = refl

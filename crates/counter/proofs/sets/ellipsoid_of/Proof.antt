@@ -10,7 +10,6 @@ use lib.Bits.{and-le-r}
 use Rattle.plans.specs.Bits.{hasBit}
 use Rattle.counter.specs.Counting.{eventAt}
 use Rattle.counter.specs.Inner.Groups.{First, drawnAt}
-use Rattle.counter.specs.declared.steps.Shape.the-variants.{Ellipsoid}
 use Rattle.counter.proofs.TallyLaws.{event-inside}
 use Rattle.counter.proofs.GroupLaws.{event-part, event-long, Asking, asking-all, asking-done, asked, asking-next}
 use borrow.Author.Needs.{needs}
@@ -18,10 +17,10 @@ use Rattle.counter.proofs.sets.ellipsoid_of.Statement.{statement}
 use Rattle.counter.proofs.sets.ellipsoid_of.Tie as tie
 
 abbrev Inv-loop : tie.InvT-loop
-Inv-loop group n g among body space rest₀ found₀ rest found = Asking among (drawnAt (Ellipsoid space) n group body) rest found
+Inv-loop group n g among body shape rest₀ found₀ rest found = Asking among (drawnAt shape n group body) rest found
 
 abbrev μ-loop : tie.MeasureT-loop
-μ-loop group n g among body space rest₀ found₀ rest found = rest
+μ-loop group n g among body shape rest₀ found₀ rest found = rest
 
 loop-holds : tie.Need-loop-holds Inv-loop μ-loop
 loop-holds c = asking-all (c .args .among) _
@@ -75,7 +74,7 @@ in-ellipsoid-requires c κs =
     let at-event = c .before in
     let pre = entry at-event .pre in
     let l = event-long (n at-event) (group at-event) (e at-event) (lies at-event) in
-    rw (event-is at-event, l) (pre .0 .taken (e at-event) (first at-event .below) (is-asked at-event), pre .1)
+    rw (event-is at-event, l) (pre .0 .taken (e at-event) (first at-event .below) (is-asked at-event), pre .1, pre .2)
 
 settle-requires : tie.Need-settle-requires Inv-loop μ-loop
 settle-requires c κs = first (c .before .before) .below

@@ -30,7 +30,7 @@ event-ellipsoid-position-requires : tie.Need-event-ellipsoid-position-requires
 event-ellipsoid-position-requires c κs =
     let entry = c .before .before .before in
     let ellipsoid = rw (c .before .shape4 .given .1) at (entry .pre .2) in
-    (entry .pre .0, ellipsoid .0, ellipsoid .1)
+    (entry .pre .0, ellipsoid .0, ellipsoid .2)
 
 returns-2 : tie.Need-returns-2
 returns-2 c = rw (c .before .before .enum-told2 .given .1) (c .without-outline .ensures ∙ ap withoutOutline (c .before .in-box .ensures))
