@@ -33,7 +33,7 @@ static const struct target {
     {"polygons of 64 and 256 vertices", POLYGONS, {64, 256}, GREATEST, "gcc", 0.40},
     {"polygons of 8 vertices", POLYGONS, {8, 8}, GREATEST, "Boost double", 0.33},
     {"polygons of 8 vertices", POLYGONS, {8, 8}, GREATEST, "Java 2D", 0.60},
-    {"polygons", POLYGONS, ANY, GREATEST, "before", AS_BEFORE},
+    {"polygons", POLYGONS, ANY, GREATEST, "before", 1.00},
     {"ellipses", ELLIPSES, ANY, GREATEST, "gcc", 0.70},
     {"ellipses", ELLIPSES, ANY, GREATEST, "before", AS_BEFORE},
     {"decimal ellipses", DECIMAL_ELLIPSES, ANY, GREATEST, "gcc", 2.00},
