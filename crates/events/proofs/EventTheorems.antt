@@ -23,32 +23,23 @@ use Rattle.text.proofs.LinesLaws.{lines-cut, line-length, fields-some, lineStar
 use Rattle.text.proofs.NumbersLaws.{within-event, clamp-within, read-value}
 use Rattle.text.proofs.TextTheorems.{unlines-lines, unfields-fields}
 use Rattle.events.specs.Parting.{tableLines, tableEnd, hasEvents, eventsEnded, tablePart, eventPart}
-use Rattle.events.specs.Listing.{Events, list, ragged, isEvent, eventLines, badLine, lineValues, values, eventsOf}
+use Rattle.events.specs.Listing.{Events, list, ragged, isEvent, raggedLine, lineValues, values, eventsOf}
 use Rattle.events.specs.Inner.Answers.{answerOf}
 use Rattle.events.specs.declared.listing.Answer.the-variants.{Values, Short}
 use Rattle.events.proofs.ListingLaws.{lineValues-length}
-use Rattle.events.proofs.PartingLaws.{end-at}
-use Rattle.events.proofs.BadLine.{none-bad}
-use Rattle.events.proofs.AnswerLaws.{events-none, events-open, events-ragged, events-listed}
+use Rattle.events.proofs.PartingLaws.{end-at, end-is, events-no-part}
+use Rattle.events.proofs.AnswerLaws.{behind-good, events-bad, events-good}
 
 -- ── The input parted ──
 
 -- without the line `events` all input is table
 module _ (s : List ℕ) (h : hasEvents s ≡ false) where
-  end-is : tableEnd s ≡ length s
-  unfolding tableEnd
-  end-is = rw h
-
   pub table-all : tablePart s ≡ s
   unfolding tablePart
-  table-all = take-all (tableEnd s) s (omega (arith, end-is))
-
-  pub events-no-part : eventPart s ≡ []
-  unfolding eventPart
-  events-no-part = drop-of-length-le s {i = tableEnd s + 7} (omega (arith, end-is))
+  table-all = take-all (tableEnd s) s (omega (arith, end-is s h))
 
 module _ (s : List ℕ) (h : hasEvents s ≡ true) where
-  is-line : tableLines s < length (lines s)
+  pub is-line : tableLines s < length (lines s)
   unfolding hasEvents
   is-line = ltb-true (tableLines s) (length (lines s)) h
 
@@ -60,17 +51,17 @@ module _ (s : List ℕ) (h : hasEvents s ≡ true) where
       default-free (x ∷ l) zero d k = refl
       default-free (x ∷ l) (suc i) d k = default-free l i d (omega arith)
 
-  inside : tableEnd s < length s
+  pub inside : tableEnd s < length s
   inside = omega (arith, begins, start-inside s (tableLines s) is-line)
 
-  line-is : lineFrom s (tableEnd s) ≡ bytes "events"
+  pub line-is : lineFrom s (tableEnd s) ≡ bytes "events"
   unfolding tableLines
   line-is =
       rw begins
       (line-at-start s (tableLines s) is-line
       ∙ sym (same-eq (bytes "events") (getD (lines s) (tableLines s) []) (before-found (same (bytes "events")) [] (lines s) is-line)))
 
-  lf-at : findFrom s (tableEnd s) 10 ≡ tableEnd s + 6
+  pub lf-at : findFrom s (tableEnd s) 10 ≡ tableEnd s + 6
   lf-at = sym (line-length s (tableEnd s) inside) ∙ ap (λ (l : List ℕ). tableEnd s + length l) line-is
 
   line-first : take 6 (drop (tableEnd s) s) ≡ bytes "events"
@@ -144,14 +135,14 @@ module _ (n : ℕ) (l : List ℕ) (e : isEvent n l ≡ true) where
       )
 
 module _ (n : ℕ) where
-  lines-values : (ls : List (List ℕ)) → every (isEvent n) ls ≡ true → length (flatMap lineValues ls) ≡ length ls * n
+  pub lines-values : (ls : List (List ℕ)) → every (isEvent n) ls ≡ true → length (flatMap lineValues ls) ≡ length ls * n
   unfolding flatMap
   lines-values [] e = sym (zero-mul n)
   lines-values (l ∷ ls) e =
       simp (length-append, suc-mul)
       (omega (arith, event-values n l (and-left (isEvent n l) (every (isEvent n) ls) e), lines-values ls (and-right (isEvent n l) (every (isEvent n) ls) e)))
 
-  lines-bytes : (ls : List (List ℕ)) → every (isEvent n) ls ≡ true → 2 * length (flatMap lineValues ls) ≤ length (unlines ls)
+  pub lines-bytes : (ls : List (List ℕ)) → every (isEvent n) ls ≡ true → 2 * length (flatMap lineValues ls) ≤ length (unlines ls)
   unfolding flatMap
   lines-bytes [] e = omega arith
   lines-bytes (l ∷ ls) e =
@@ -159,34 +150,23 @@ module _ (n : ℕ) where
       (omega (arith, event-bytes n l (and-left (isEvent n l) (every (isEvent n) ls) e), lines-bytes ls (and-right (isEvent n l) (every (isEvent n) ls) e)))
 
 module _ (n : ℕ) (s : List ℕ) (vs : List ℤ) (e : eventsOf n s ≡ list vs) where
-  listed-are : (badLine n (eventPart s) ≡ 0) × (vs ≡ values (eventPart s))
-  unfolding badLine eventLines values flatMap lines endsInLF
-  listed-are = go (passed-or-failed (hasEvents s)) (passed-or-failed (eventsEnded s)) (lt-or-ge 0 (badLine n (eventPart s)))
+  pub listed-are : (raggedLine (isEvent n) s ≡ 0) × (vs ≡ values (eventPart s))
+  listed-are = go (lt-or-ge 0 (raggedLine (isEvent n) s))
     where
-      go : (hasEvents s ≡ true) ⊎ (hasEvents s ≡ false) → (eventsEnded s ≡ true) ⊎ (eventsEnded s ≡ false)
-          → (0 < badLine n (eventPart s)) ⊎ (badLine n (eventPart s) ≤ 0)
-          → (badLine n (eventPart s) ≡ 0) × (vs ≡ values (eventPart s))
-      go (inr h) g l =
-          let q : list [] ≡ list vs = sym (events-none n s h) ∙ e in
-          let v : vs ≡ [] = cc in
-          rw (events-no-part s h, v) (refl, refl)
-      go (inl h) (inr g) l = absurd (let q : ragged (tableLines s + 1) ≡ list vs = sym (events-open n s h g) ∙ e in let z : _≡_ {A = ℕ} 0 1 = cc in omega arith)
-      go (inl h) (inl g) (inl l) =
-          absurd (let q : ragged (tableLines s + 1 + badLine n (eventPart s)) ≡ list vs = sym (events-ragged n s h g l) ∙ e in
-          let z : _≡_ {A = ℕ} 0 1 = cc in
-          omega arith)
-      go (inl h) (inl g) (inr l) = let q : list (values (eventPart s)) ≡ list vs = sym (events-listed n s h g l) ∙ e in (omega arith, cc)
+      go : (0 < raggedLine (isEvent n) s) ⊎ (raggedLine (isEvent n) s ≤ 0) → (raggedLine (isEvent n) s ≡ 0) × (vs ≡ values (eventPart s))
+      go (inl l) = absurd (let q : ragged (raggedLine (isEvent n) s) ≡ list vs = sym (events-bad n s l) ∙ e in let z : _≡_ {A = ℕ} 0 1 = cc in omega arith)
+      go (inr l) = let q : list (values (eventPart s)) ≡ list vs = sym (events-good n s l) ∙ e in (omega arith, cc)
 
   -- the list is complete: n values for each line of events
   pub values-complete : length vs ≡ length (lines (eventPart s)) * n
   unfolding values
-  values-complete = rw (listed-are .1) (lines-values n (lines (eventPart s)) (none-bad n (eventPart s) (listed-are .0) .0))
+  values-complete = rw (listed-are .1) (lines-values n (lines (eventPart s)) (behind-good (isEvent n) s (listed-are .0) .0))
 
   -- a value takes two bytes at least: 65,536 bytes hold at most 32,768
   pub values-few : 2 * length vs ≤ length s
   unfolding values eventPart
   values-few =
-      let b = none-bad n (eventPart s) (listed-are .0) in
+      let b = behind-good (isEvent n) s (listed-are .0) in
       let k = lines-bytes n (lines (eventPart s)) (b .0) in
       omega (arith, ap length (listed-are .1), length-drop (tableEnd s + 7) s, k, all-bytes (b .1))
     where

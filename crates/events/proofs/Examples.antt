@@ -9,7 +9,7 @@ use Rattle.text.specs.Numbers.{isNegative, unsigned, isPositive, isNumber, numb
 use Rattle.text.specs.Lines.{fields, lines, endsInLF}
 use Rattle.text.specs.Output.{decimal}
 use Rattle.events.specs.Parting.{tableLines, tableEnd, hasEvents, tablePart, eventsEnded, eventPart}
-use Rattle.events.specs.Listing.{Events, list, ragged, isEvent, eventLines, badLine, lineValues, values, eventsOf}
+use Rattle.events.specs.Listing.{Events, list, ragged, isEvent, goodLines, badLine, raggedLine, lineValues, values, eventsOf}
 use Rattle.events.specs.Printing.{countLine, takenLine, spoiltLine, refusedLine}
 
 -- ── Inputs ──
@@ -69,8 +69,8 @@ unfolding tablePart tableEnd hasEvents tableLines lines same
 example-tables = refl
 
 pub example-events : map (λ e. eventsOf (e .n) (bytes (e .input))) examples ≡ map (λ e. e .events) examples
-unfolding eventsOf hasEvents eventsEnded eventPart tableEnd tableLines badLine eventLines isEvent values lineValues flatMap lines fields endsInLF same isNumber
-    isPositive isNegative unsigned numberValue
+unfolding eventsOf hasEvents eventsEnded eventPart tableEnd tableLines raggedLine badLine goodLines isEvent values lineValues flatMap lines fields endsInLF same
+    isNumber isPositive isNegative unsigned numberValue
 example-events = refl
 
 -- ── Printed lines ──

@@ -8,3 +8,4 @@ pub mod PrintingLaws
 pub mod EventTheorems
 pub mod Examples
 pub mod CountedLaws
+pub mod ListsLaws

@@ -1,6 +1,6 @@
 -- Laws of specs/Listing.
 use mathlib.Core.Path.{_≡_, refl, sym, _∙_, ap, ap₂}
-use mathlib.Core.Bool.{Bool, true, false, not, cond}
+use mathlib.Core.Bool.{Bool, true, false, not, cond, _&&_}
 use mathlib.Core.List.{List, [], _∷_, _++_, map, map-append, flatMap}
 use Prim.Native.Nat.{ℕ, suc, _+_, _-_, _≤_, _<_}
 use native.Mathlib.Omega.{arith}
@@ -9,7 +9,7 @@ use lib.IntN.{ℤ}
 use lib.ListN.{length, getD, set, take, drop, length-append, length-drop, length-map, List·getD-map}
 use lib.Seq.{take-all, length-take-le}
 use borrow.Author.Tests.{lt-ltb, le-ltb, eq-eqb, ne-eqb}
-use Rattle.text.specs.Bytes.{every}
+use Rattle.text.specs.Bytes.{bytes, same, every}
 use Rattle.text.specs.Inner.Counts.{occurrences}
 use Rattle.text.specs.Numbers.{isNumber, numberValue, clamp}
 use Rattle.text.specs.Inner.Kept.{kept, readNumber}
@@ -17,13 +17,13 @@ use Rattle.text.specs.Lines.{fields, lines, endsInLF}
 use Rattle.text.specs.Inner.Places.{findFrom, lineFrom}
 use Rattle.text.specs.Output.{over}
 use Rattle.text.specs.Inner.Writing.{overFrom}
-use Rattle.text.proofs.TestLaws.{and-left, and-right, and-false}
+use Rattle.text.proofs.TestLaws.{true≢false, and-left, and-right, and-false}
 use Rattle.text.proofs.BytesLaws.{every-fails, every-end}
 use Rattle.text.proofs.NumbersLaws.{read-value}
 use Rattle.text.proofs.OutputLaws.{over-take}
 use Rattle.text.proofs.LinesLaws.{find-inside, lines-cut, lines-end, line-length}
 use Rattle.text.proofs.TextTheorems.{fields-count}
-use Rattle.events.specs.Listing.{isEvent, eventLines, badLine, lineValues, values}
+use Rattle.events.specs.Listing.{isEvent, isListLine, goodLine, goodLines, badLine, lineValues, values}
 use Rattle.events.specs.Inner.Answers.{lineKept, valuesKept}
 use Rattle.text.proofs.WritingLaws.{over-from, take-more, drop-more}
 use Rattle.events.proofs.SearchLaws.{Passed, found-number, found-below, missing-number, missing-count}
@@ -45,28 +45,41 @@ module _ (n : ℕ) (l : List ℕ) where
     unfolding isEvent
     event-whole q h = rw (e, every-end (fields l) k isNumber h, eq-eqb (length (fields l)) n (sym q))
 
+-- ── A good line ──
+
+module _ (n : ℕ) (l : List ℕ) where
+  pub good-again : (several : Bool) → (several && same (bytes "events") l) ≡ true → true ≡ goodLine several n l
+  unfolding isListLine
+  good-again true e = rw e
+  good-again false e = absurd (true≢false (sym e))
+
+  pub good-event : (several : Bool) → (several && same (bytes "events") l) ≡ false → isEvent n l ≡ goodLine several n l
+  unfolding isListLine
+  good-event true e = rw e
+  good-event false e = refl
+
 -- ── The lowest bad line ──
 
--- a line that is no event
-abbrev pub isBad : ℕ → List ℕ → Bool
-isBad n line = not (isEvent n line)
+-- a line that is not good
+abbrev pub isBad : (List ℕ → Bool) → List ℕ → Bool
+isBad good line = not (good line)
 
-module _ (n : ℕ) (s : List ℕ) (a k : ℕ) (p : Passed (isBad n) s a k) where
-  pub bad-found : a < length s → isBad n (lineFrom s a) ≡ true → k + 1 ≡ badLine n s
-  unfolding badLine eventLines
-  bad-found l h = sym (rw (found-number (isBad n) s a k p l h, lt-ltb k (length (lines s)) (found-below (isBad n) s a k p l h)))
+module _ (good : List ℕ → Bool) (s : List ℕ) (a k : ℕ) (p : Passed (isBad good) s a k) where
+  pub bad-found : a < length s → isBad good (lineFrom s a) ≡ true → k + 1 ≡ badLine good s
+  unfolding badLine goodLines
+  bad-found l h = sym (rw (found-number (isBad good) s a k p l h, lt-ltb k (length (lines s)) (found-below (isBad good) s a k p l h)))
 
   module _ (l : length s ≤ a) where
-    no-bad : badLine n s ≡ cond (endsInLF s) 0 k
-    unfolding badLine eventLines
+    no-bad : badLine good s ≡ cond (endsInLF s) 0 k
+    unfolding badLine goodLines
     no-bad =
-        let m = missing-count (isBad n) s a k p l in
-        rw (missing-number (isBad n) s a k p l, m, le-ltb k k (omega arith))
+        let m = missing-count (isBad good) s a k p l in
+        rw (missing-number (isBad good) s a k p l, m, le-ltb k k (omega arith))
 
-    pub bad-none : endsInLF s ≡ true → 0 ≡ badLine n s
+    pub bad-none : endsInLF s ≡ true → 0 ≡ badLine good s
     bad-none e = sym (no-bad ∙ rw e)
 
-    pub bad-open : endsInLF s ≡ false → k ≡ badLine n s
+    pub bad-open : endsInLF s ≡ false → k ≡ badLine good s
     bad-open e = sym (no-bad ∙ rw e)
 
 -- ── Values ──

@@ -2,19 +2,19 @@
 use mathlib.Core.Path.{_≡_, sym, _∙_}
 use mathlib.Core.Bool.{Bool, true, false, cond}
 use mathlib.Core.Logic.{_⊎_, inl, inr}
-use mathlib.Core.List.{List}
+use mathlib.Core.List.{List, []}
 use Prim.Native.Nat.{ℕ, _+_, _≤_, _<_}
 use native.Mathlib.Omega.{arith}
 use native.Mathlib.Nat.{zero-add}
 use lib.Dec.{ltb, eqb}
-use lib.ListN.{length, getD, take, List·getD-eq-default}
+use lib.ListN.{length, getD, take, drop-of-length-le, List·getD-eq-default}
 use borrow.Author.Tests.{lt-ltb, le-ltb}
 use Rattle.text.specs.Bytes.{bytes, same}
 use Rattle.text.specs.Lines.{lines, unlines}
 use Rattle.text.specs.Inner.Places.{startsFrom, lineStarts, lineFrom}
 use Rattle.text.proofs.TestLaws.{lt-or-ge}
 use Rattle.text.proofs.LinesLaws.{starts-at, starts-length}
-use Rattle.events.specs.Parting.{tableLines, tableEnd, hasEvents, eventsEnded}
+use Rattle.events.specs.Parting.{tableLines, tableEnd, hasEvents, eventsEnded, eventPart}
 use Rattle.events.specs.Inner.Answers.{partedOf, openingOf}
 use Rattle.events.specs.declared.parting.Parted.{Parted}
 use Rattle.events.specs.declared.parting.Opening.{Opening}
@@ -32,6 +32,16 @@ end-at s = go (lt-or-ge (tableLines s) (length (lines s)))
     go (inr h) =
         rw (le-ltb (tableLines s) (length (lines s)) h)
         (sym (List·getD-eq-default (startsFrom 0 (lines s)) (length s) (omega (arith, starts-length 0 (lines s)))))
+
+-- without the line `events` it is at the end, and nothing stands behind it
+module _ (s : List ℕ) (h : hasEvents s ≡ false) where
+  pub end-is : tableEnd s ≡ length s
+  unfolding tableEnd
+  end-is = rw h
+
+  pub events-no-part : eventPart s ≡ []
+  unfolding eventPart
+  events-no-part = drop-of-length-le s {i = tableEnd s + 7} (omega (arith, end-is))
 
 -- the line `events`
 abbrev pub isOpening : List ℕ → Bool

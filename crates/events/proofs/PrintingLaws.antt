@@ -1,13 +1,14 @@
 -- Laws of specs/Printing: a line is written part behind part.
-use mathlib.Core.Path.{_≡_, sym}
+use mathlib.Core.Path.{_≡_, refl, sym, _∙_, ap}
 use mathlib.Core.List.{List, [], _∷_, _++_, append-assoc}
-use Prim.Native.Nat.{ℕ, _+_}
+use Prim.Native.Nat.{ℕ, zero, suc, _+_}
+use native.Mathlib.Nat.{zero-add}
 use native.Mathlib.Omega.{arith}
 use lib.ListN.{length, length-append}
-use Rattle.text.specs.Output.{decimal, over}
+use Rattle.text.specs.Output.{over}
 use Rattle.text.specs.Inner.Writing.{overFrom}
-use Rattle.events.specs.Printing.{countLine}
-use Rattle.text.proofs.WritingLaws.{over-from}
+use Rattle.events.specs.Printing.{numberField, numbersLine, countLine}
+use Rattle.text.proofs.WritingLaws.{over-nil, over-from}
 
 -- p, of length a, is written over d
 abbrev pub Written : List ℕ → List ℕ → ℕ → List ℕ → Type 0
@@ -20,24 +21,35 @@ WrittenFrom a q x c y = (c ≡ length q) × (y ≡ overFrom a q x)
 pub written-more : (p d q : List ℕ) {x y : List ℕ} {a c : ℕ} → Written p d a x → WrittenFrom a q x c y → Written (p ++ q) d (a + c) y
 written-more p d q w v = (simp length-append (omega arith), over-from p d _ _ q _ (sym (w .0)) (w .1) (v .1))
 
-module _ (d : List ℕ) {x₁ x₂ x₃ x₄ : List ℕ} {a b c e : ℕ} where
-  pub count-written : (name : List ℕ) (n : ℕ) → Written name d a x₁ → WrittenFrom a (9 ∷ []) x₁ b x₂ → WrittenFrom (a + b) (decimal n) x₂ c x₃
-      → WrittenFrom (a + b + c) (10 ∷ []) x₃ e x₄
-      → Written (countLine name n) d (a + b + c + e) x₄
-  unfolding countLine
-  count-written name n w₁ w₂ w₃ w₄ =
-      let q : ((name ++ (9 ∷ [])) ++ decimal n) ++ (10 ∷ []) ≡ name ++ (9 ∷ (decimal n ++ (10 ∷ []))) = simp append-assoc in
-      let v₂ = written-more name d (9 ∷ []) w₁ w₂ in
-      let v₃ = written-more (name ++ (9 ∷ [])) d (decimal n) v₂ w₃ in
-      rw q at (written-more ((name ++ (9 ∷ [])) ++ decimal n) d (10 ∷ []) v₃ w₄)
+-- the same behind what stands from an index on
+from-nil : (a : ℕ) (q : List ℕ) → overFrom a q [] ≡ []
+unfolding overFrom
+from-nil zero q = over-nil q
+from-nil (suc a) q = over-nil q
 
-  pub refused-written : {x₅ : List ℕ} {f : ℕ} (head : List ℕ) (n k : ℕ) → Written head d a x₁ → WrittenFrom a (decimal n) x₁ b x₂
-      → WrittenFrom (a + b) (9 ∷ []) x₂ c x₃
-      → WrittenFrom (a + b + c) (decimal k) x₃ e x₄ → WrittenFrom (a + b + c + e) (10 ∷ []) x₄ f x₅
-      → Written (head ++ (decimal n ++ (9 ∷ (decimal k ++ (10 ∷ []))))) d (a + b + c + e + f) x₅
-  refused-written head n k w₁ w₂ w₃ w₄ w₅ =
-      let q : (((head ++ decimal n) ++ (9 ∷ [])) ++ decimal k) ++ (10 ∷ []) ≡ head ++ (decimal n ++ (9 ∷ (decimal k ++ (10 ∷ [])))) = simp append-assoc in
-      let v₂ = written-more head d (decimal n) w₁ w₂ in
-      let v₃ = written-more (head ++ decimal n) d (9 ∷ []) v₂ w₃ in
-      let v₄ = written-more ((head ++ decimal n) ++ (9 ∷ [])) d (decimal k) v₃ w₄ in
-      rw q at (written-more (((head ++ decimal n) ++ (9 ∷ [])) ++ decimal k) d (10 ∷ []) v₄ w₅)
+behind-nil : (a b : ℕ) (p q : List ℕ) → overFrom b q (overFrom a p []) ≡ overFrom a (p ++ q) []
+behind-nil a b p q = rw (from-nil a p) (from-nil b q ∙ sym (from-nil a (p ++ q)))
+
+over-behind : (a : ℕ) (p d q : List ℕ) → overFrom (a + length p) q (overFrom a p d) ≡ overFrom a (p ++ q) d
+unfolding overFrom
+over-behind zero p d q = rw zero-add (over-from p d (over p d) _ q (length p) refl refl refl)
+over-behind (suc a) p [] q = behind-nil (suc a) (suc a + length p) p q
+over-behind (suc a) p (y ∷ d) q =
+    let e : suc a + length p ≡ suc (a + length p) = omega arith in
+    rw e (ap (λ (l : List ℕ). y ∷ l) (over-behind a p d q))
+
+pub from-more : (a : ℕ) (p d q : List ℕ) {x y : List ℕ} {c e : ℕ} → WrittenFrom a p d c x → WrittenFrom (a + c) q x e y → WrittenFrom a (p ++ q) d (c + e) y
+from-more a p d q w v = (simp length-append (omega arith), v .1 ∙ rw (w .0, w .1) (over-behind a p d q))
+
+module _ (d : List ℕ) {x₁ x₂ x₃ : List ℕ} {a b c : ℕ} (name : List ℕ) (n : ℕ) (w₁ : Written name d a x₁) (w₂ : WrittenFrom a (numberField n) x₁ b x₂) where
+  pub count-written : WrittenFrom (a + b) (10 ∷ []) x₂ c x₃ → Written (countLine name n) d (a + b + c) x₃
+  unfolding countLine
+  count-written w₃ = rw append-assoc at (written-more (name ++ numberField n) d (10 ∷ []) (written-more name d (numberField n) w₁ w₂) w₃)
+
+  pub refused-written : {x₄ : List ℕ} {e : ℕ} (k : ℕ) → WrittenFrom (a + b) (numberField k) x₂ c x₃ → WrittenFrom (a + b + c) (10 ∷ []) x₃ e x₄
+      → Written (numbersLine name (n ∷ k ∷ [])) d (a + b + c + e) x₄
+  refused-written k w₃ w₄ =
+      let q : ((name ++ numberField n) ++ numberField k) ++ (10 ∷ []) ≡ numbersLine name (n ∷ k ∷ []) = simp append-assoc in
+      let v₂ = written-more name d (numberField n) w₁ w₂ in
+      let v₃ = written-more (name ++ numberField n) d (numberField k) v₂ w₃ in
+      rw q at (written-more ((name ++ numberField n) ++ numberField k) d (10 ∷ []) v₃ w₄)

@@ -7,9 +7,21 @@ use Rattle.plans.specs.Refusals.{Verdict}
 use Rattle.text.specs.Bytes.{bytes}
 use Rattle.text.specs.Output.{decimal}
 
--- name, tab, count, LF
+-- tab and number
+abbrev pub numberField : ℕ → List ℕ
+numberField x = 9 ∷ decimal x
+
+-- fields of numbers, then LF
+abbrev pub numbersText : List ℕ → List ℕ
+numbersText [] = 10 ∷ []
+numbersText (x ∷ xs) = numberField x ++ numbersText xs
+
+-- a printed line is a name and numbers
+abbrev pub numbersLine : List ℕ → List ℕ → List ℕ
+numbersLine name numbers = name ++ numbersText numbers
+
 unfoldable pub countLine : List ℕ → ℕ → List ℕ
-countLine name count = name ++ (9 ∷ (decimal count ++ (10 ∷ [])))
+countLine name count = numbersLine name (count ∷ [])
 
 unfoldable pub takenLine : ℕ → List ℕ
 takenLine count = countLine (bytes "taken") count
@@ -17,9 +29,8 @@ takenLine count = countLine (bytes "taken") count
 unfoldable pub spoiltLine : ℕ → List ℕ
 spoiltLine count = countLine (bytes "spoilt") count
 
--- `refused`, tab, number, tab, place, LF
 unfoldable pub refusedLine : ℕ → ℕ → List ℕ
-refusedLine number place = bytes "refused" ++ (9 ∷ (decimal number ++ (9 ∷ (decimal place ++ (10 ∷ [])))))
+refusedLine number place = numbersLine (bytes "refused") (number ∷ place ∷ [])
 
 -- what is printed unless there is a refusal: then its number and place
 abbrev pub unlessRefused : Verdict → List ℕ → List ℕ

@@ -5,7 +5,7 @@ ghost use lib.ListN.{length, set, drop};
 ghost use Rattle.text.specs.Output.{over, Writes};
 ghost use Rattle.text.specs.Inner.Writing.{WritesFrom};
 ghost use Rattle.text.specs.Inner.Kept.{kept};
-ghost use Rattle.events.specs.Listing.{isEvent, badLine, eventsOf};
+ghost use Rattle.events.specs.Listing.{isEvent, goodLine, badLine, raggedLine, eventsOf};
 ghost use Rattle.events.specs.Inner.Answers.{answerOf, listed, lineKept, valuesKept};
 use crate::parting::split;
 use text::lines::ends_in_lf;
@@ -13,6 +13,7 @@ use text::lines::field;
 use text::lines::field_count;
 use text::lines::find;
 use text::lines::line_from;
+use text::names::same;
 use text::numbers::Number;
 use text::numbers::is_number;
 use text::numbers::kept;
@@ -46,14 +47,25 @@ fn is_event(line: &[u8], n: usize) -> bool
     true
 }
 
+// Whether a line behind the first `events` is good: an event of n values or, where there are several lists, `events` again.
+fn is_good(line: &[u8], n: usize, several: bool) -> bool
+    ensures { λ r. ⌜ r ≡ goodLine several n (now (line .entry)) ⌝ }
+{
+    let again = same(b"events", line);
+    if several & again {
+        return true;
+    }
+    is_event(line, n)
+}
+
 // The lowest bad line of the event part, counted from 1 in it; 0 where there is none.
-fn bad_line(part: &[u8], n: usize) -> usize
-    ensures { λ r. ⌜ (r ≡ badLine n (now (part .entry))) × (r ≤ length (now (part .entry)) + 1) ⌝ }
+fn bad_line(part: &[u8], n: usize, several: bool) -> usize
+    ensures { λ r. ⌜ (r ≡ badLine (goodLine several n) (now (part .entry))) × (r ≤ length (now (part .entry)) + 1) ⌝ }
 {
     let mut at = 0;
     let mut k: usize = 0;
     while at < part.len() {
-        if !is_event(line_from(part, at), n) {
+        if !is_good(line_from(part, at), n, several) {
             return k + 1;
         }
         at = find(part, at, b'\n') + 1;
@@ -96,7 +108,7 @@ fn put_line_from(values: &mut [i32], a: usize, line: &[u8]) -> usize
 }
 
 // Writes the values kept of all lines over the beginning of list, as far as it goes, and answers how many there are.
-fn put_lines(list: &mut [i32], part: &[u8]) -> usize
+pub fn put_lines(list: &mut [i32], part: &[u8]) -> usize
     ensures { λ r. ⌜ Writes (valuesKept (now (part .entry))) (now (list .entry)) (now (list .exit)) r ⌝ }
 {
     let mut at = 0;
@@ -110,11 +122,33 @@ fn put_lines(list: &mut [i32], part: &[u8]) -> usize
 }
 
 // What stands from place a on.
-fn rest_from(s: &[u8], a: usize) -> &[u8]
+pub fn rest_from(s: &[u8], a: usize) -> &[u8]
     ensures { λ r. ⌜ now r ≡ drop a (now (s .entry)) ⌝ }
 {
     let b = lesser(a, s.len());
     &s[b..]
+}
+
+// The lowest bad line of an input, counted from 1 over all of it; 0 where there is none. It has one list, or several.
+pub fn ragged_line(input: &[u8], n: usize, several: bool) -> usize
+    ensures { λ r. ⌜ r ≡ raggedLine (goodLine several n) (now (input .entry)) ⌝ }
+{
+    let s = split(input);
+    let found = s.found;
+    if !found {
+        return 0;
+    }
+    let ended = s.ended;
+    let line = s.line;
+    if !ended {
+        return line;
+    }
+    let start = s.start;
+    let bad = bad_line(rest_from(input, start), n, several);
+    if 0 < bad {
+        return line + bad;
+    }
+    0
 }
 
 // Reads the events of n values that the input has into list. A list of half as many values as the input has bytes is never too
@@ -123,23 +157,13 @@ pub fn read_events(input: &[u8], n: usize, list: &mut [i32]) -> Answer
     ensures { λ r. ⌜ (r ≡ answerOf (eventsOf n (now (input .entry))) (length (now (list .entry))))
         × (now (list .exit) ≡ over (listed (eventsOf n (now (input .entry)))) (now (list .entry))) ⌝ }
 {
-    let s = split(input);
-    let found = s.found;
-    if !found {
-        return Answer::Values(0);
-    }
-    let ended = s.ended;
-    let line = s.line;
-    if !ended {
+    let line = ragged_line(input, n, false);
+    if 0 < line {
         return Answer::Ragged(line);
     }
+    let s = split(input);
     let start = s.start;
-    let part = rest_from(input, start);
-    let bad = bad_line(part, n);
-    if 0 < bad {
-        return Answer::Ragged(line + bad);
-    }
-    let m = put_lines(list, part);
+    let m = put_lines(list, rest_from(input, start));
     if list.len() < m {
         return Answer::Short;
     }

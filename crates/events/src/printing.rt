@@ -2,13 +2,13 @@
 ghost use mathlib.Core.Path.{_≡_};
 ghost use Rattle.text.specs.Output.{decimal, over, Writes};
 ghost use Rattle.text.specs.Inner.Writing.{WritesFrom};
-ghost use Rattle.events.specs.Printing.{countLine, takenLine, spoiltLine, refusedLine};
+ghost use Rattle.events.specs.Printing.{numberField, countLine, takenLine, spoiltLine, refusedLine};
 use text::output::lesser;
 use text::output::put_bytes;
 use text::output::put_number;
 
 // Writes s from index a on, as far as rest goes, and answers how many bytes s has.
-fn put_bytes_from(rest: &mut [u8], a: usize, s: &[u8]) -> usize
+pub fn put_bytes_from(rest: &mut [u8], a: usize, s: &[u8]) -> usize
     ensures { λ r. ⌜ WritesFrom a (now (s .entry)) (now (rest .entry)) (now (rest .exit)) r ⌝ }
 {
     let b = lesser(a, rest.len());
@@ -23,14 +23,29 @@ pub fn put_number_from(rest: &mut [u8], a: usize, x: u64) -> usize
     put_number(&mut rest[b..], x)
 }
 
+// Writes a tab and the digits of x over the beginning of rest, as far as it goes, and answers how many bytes they are.
+fn put_field(rest: &mut [u8], x: u64) -> usize
+    ensures { λ r. ⌜ Writes (numberField x) (now (rest .entry)) (now (rest .exit)) r ⌝ }
+{
+    let a = put_bytes(rest, b"\t");
+    a + put_number_from(rest, a, x)
+}
+
+// The same from index a on.
+pub fn put_field_from(rest: &mut [u8], a: usize, x: u64) -> usize
+    ensures { λ r. ⌜ WritesFrom a (numberField x) (now (rest .entry)) (now (rest .exit)) r ⌝ }
+{
+    let b = lesser(a, rest.len());
+    put_field(&mut rest[b..], x)
+}
+
 // Writes the line of a name and a count over the beginning of rest, as far as it goes, and answers how long the line is.
 fn put_count(rest: &mut [u8], name: &[u8], count: u64) -> usize
     ensures { λ r. ⌜ Writes (countLine (now (name .entry)) count) (now (rest .entry)) (now (rest .exit)) r ⌝ }
 {
     let a = put_bytes(rest, name);
-    let b = a + put_bytes_from(rest, a, b"\t");
-    let c = b + put_number_from(rest, b, count);
-    c + put_bytes_from(rest, c, b"\n")
+    let b = a + put_field_from(rest, a, count);
+    b + put_bytes_from(rest, b, b"\n")
 }
 
 // The same from index a on.
@@ -59,9 +74,8 @@ pub fn put_spoilt(rest: &mut [u8], a: usize, count: u64) -> usize
 pub fn put_refused(rest: &mut [u8], number: u64, place: u64) -> usize
     ensures { λ r. ⌜ Writes (refusedLine number place) (now (rest .entry)) (now (rest .exit)) r ⌝ }
 {
-    let a = put_bytes(rest, b"refused\t");
-    let b = a + put_number_from(rest, a, number);
-    let c = b + put_bytes_from(rest, b, b"\t");
-    let d = c + put_number_from(rest, c, place);
-    d + put_bytes_from(rest, d, b"\n")
+    let a = put_bytes(rest, b"refused");
+    let b = a + put_field_from(rest, a, number);
+    let c = b + put_field_from(rest, b, place);
+    c + put_bytes_from(rest, c, b"\n")
 }

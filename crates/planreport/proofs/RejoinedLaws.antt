@@ -15,7 +15,7 @@ use Rattle.text.specs.Lines.{parts, lines, unlines}
 use Rattle.text.proofs.TestLaws.{and-left, and-right, passed-or-failed, lt-or-ge}
 use Rattle.text.proofs.TextTheorems.{lines-unlines}
 use Rattle.events.specs.Parting.{tableLines, hasEvents, tableEnd, tablePart, eventsEnded, eventPart, eventsFrom}
-use Rattle.events.specs.Listing.{list, ragged, badLine, values, eventsOf}
+use Rattle.events.specs.Listing.{list, ragged, isEvent, badLine, values, eventsOf}
 use Rattle.events.proofs.AnswerLaws.{events-none, events-open, events-ragged, events-listed}
 use Rattle.events.proofs.EventTheorems.{table-all, input-parted}
 use Rattle.planreport.proofs.ReadBack.{part-first}
@@ -105,7 +105,7 @@ module _ (ls : List (List ℕ)) (whole : every (without 10) ls ≡ true) (other 
           (length (unlines ls)) refl,
     )
 
-    pub joined-listed : (n : ℕ) → badLine n part ≤ 0 → eventsOf n (unlines ls ++ opened part) ≡ list (values part)
+    pub joined-listed : (n : ℕ) → badLine (isEvent n) part ≤ 0 → eventsOf n (unlines ls ++ opened part) ≡ list (values part)
     joined-listed n h =
         let X = unlines ls ++ opened part in
         events-listed n X joined-has joined-ended (rw joined-events h) ∙ rw joined-events
@@ -133,7 +133,7 @@ module _ (ls : List (List ℕ)) (whole : every (without 10) ls ≡ true) (other 
         let v : list [] ≡ list vs = sym (events-none n input h) ∙ good in
         rw (r, append-nil (unlines ls)) (table-all (unlines ls) alone-none, events-none n (unlines ls) alone-none ∙ v)
 
-    with-events : hasEvents input ≡ true → eventsEnded input ≡ true → badLine n (eventPart input) ≤ 0 → Rejoined
+    with-events : hasEvents input ≡ true → eventsEnded input ≡ true → badLine (isEvent n) (eventPart input) ≤ 0 → Rejoined
     unfolding eventsFrom
     with-events h e l =
         let r : drop (tableEnd input) input ≡ opened (eventPart input) = rest-is input (opened (eventPart input)) (input-parted input h e) in
@@ -142,14 +142,14 @@ module _ (ls : List (List ℕ)) (whole : every (without 10) ls ≡ true) (other 
 
     -- the lines in the table's place part the input as the table does, and the same values are listed
     pub rejoined : Rejoined
-    rejoined = go (passed-or-failed (hasEvents input)) (passed-or-failed (eventsEnded input)) (lt-or-ge 0 (badLine n (eventPart input)))
+    rejoined = go (passed-or-failed (hasEvents input)) (passed-or-failed (eventsEnded input)) (lt-or-ge 0 (badLine (isEvent n) (eventPart input)))
       where
         go : (hasEvents input ≡ true) ⊎ (hasEvents input ≡ false) → (eventsEnded input ≡ true) ⊎ (eventsEnded input ≡ false)
-            → (0 < badLine n (eventPart input)) ⊎ (badLine n (eventPart input) ≤ 0) → Rejoined
+            → (0 < badLine (isEvent n) (eventPart input)) ⊎ (badLine (isEvent n) (eventPart input) ≤ 0) → Rejoined
         go (inr h) e l = without-events h
         go (inl h) (inr e) l = absurd
             (let q : ragged (tableLines input + 1) ≡ list vs = sym (events-open n input h e) ∙ good in let z : _≡_ {A = ℕ} 0 1 = cc in omega arith)
         go (inl h) (inl e) (inl l) =
-            absurd (let q : ragged (tableLines input + 1 + badLine n (eventPart input)) ≡ list vs = sym (events-ragged n input h e l)
+            absurd (let q : ragged (tableLines input + 1 + badLine (isEvent n) (eventPart input)) ≡ list vs = sym (events-ragged n input h e l)
             ∙ good in let z : _≡_ {A = ℕ} 0 1 = cc in omega arith)
         go (inl h) (inl e) (inr l) = with-events h e l

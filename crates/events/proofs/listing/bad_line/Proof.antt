@@ -1,4 +1,4 @@
--- `bad_line`: the k lines before `at` are events.
+-- `bad_line`: the k lines before `at` are good.
 use mathlib.Core.Path.{sym, _∙_}
 use Prim.Native.Nat.{_-_}
 use native.Mathlib.Omega.{arith}
@@ -6,16 +6,17 @@ use borrow.Author.Tests.{not-true, not-false}
 use borrow.Author.Needs.{needs}
 use lib.ListN.{length}
 use Rattle.text.proofs.LinesLaws.{find-from, found-inside}
+use Rattle.events.specs.Listing.{goodLine}
 use Rattle.events.proofs.ListingLaws.{isBad, bad-found, bad-none, bad-open}
 use Rattle.events.proofs.SearchLaws.{Passed, passed-none, passed-more}
 use Rattle.events.proofs.listing.bad_line.Statement.{statement}
 use Rattle.events.proofs.listing.bad_line.Tie as tie
 
 abbrev Inv-loop : tie.InvT-loop
-Inv-loop part n at₀ k₀ at k = Passed (isBad n) part at k
+Inv-loop part n several at₀ k₀ at k = Passed (isBad (goodLine several n)) part at k
 
 abbrev μ-loop : tie.MeasureT-loop
-μ-loop part n at₀ k₀ at k = length part - at
+μ-loop part n several at₀ k₀ at k = length part - at
 
 loop-holds : tie.Need-loop-holds Inv-loop μ-loop
 loop-holds c = passed-none _ _
@@ -30,7 +31,7 @@ returns c =
     let at-test = c .before .before .before in
     let loop = at-test .before .loop in (
       bad-found _ _ (loop .at) (loop .k) (loop .inv) (at-test .loop-test .taken)
-          (rw (c .before .is-event .ensures, c .before .before .line-from .ensures) at (c .if1 .taken)),
+          (rw (c .before .is-good .ensures, c .before .before .line-from .ensures) at (c .if1 .taken)),
       omega (arith, loop .inv .below),
     )
 
@@ -54,7 +55,7 @@ loop-again c =
     let i = c .before .before in
     let l = i .before .before .before in
     passed-more _ _ (l .loop .at) (l .loop .k) (l .loop .inv) _ (c .find .ensures) (i .before .before .loop-test .taken)
-    (rw (i .is-event .ensures, i .before .line-from .ensures) at (c .before .if1 .left))
+    (rw (i .is-good .ensures, i .before .line-from .ensures) at (c .before .if1 .left))
 
 returns-2 : tie.Need-returns-2 Inv-loop μ-loop
 returns-2 c =

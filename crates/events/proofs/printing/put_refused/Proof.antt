@@ -1,4 +1,4 @@
--- `put_refused`: the five parts of the line, one behind the other.
+-- `put_refused`: the four parts of the line, one behind the other.
 use native.Mathlib.Omega.{arith}
 use borrow.Author.Needs.{needs}
 use Rattle.text.specs.Bytes.{bytes}
@@ -10,28 +10,24 @@ use Rattle.events.proofs.printing.put_refused.Tie as tie
 
 add-b : tie.Need-add-b
 add-b c =
-    let head = c .before .before .before .before .before .before in
-    let entry = head .before .before .before .before in
-    omega (arith, decimal-length (entry .args .number))
+    let number = c .before .before in
+    let name = number .before .before .before .before in
+    omega (arith, decimal-length (name .before .before .before .before .args .number))
 
 add-c : tie.Need-add-c
 add-c c =
-    let head = c .before .before .before .before .before .before .before .before .before .before .before in
-    let entry = head .before .before .before .before in
-    omega (arith, decimal-length (entry .args .number))
-
-add-d : tie.Need-add-d
-add-d c =
     let place = c .before .before in
-    let number = place .before .before .before .before .before .before .before .before .before in
-    let a = number .before .before .before .before .before .before .before .before .args in
+    let number = place .before .before .before .before in
+    let name = number .before .before .before .before in
+    let a = name .before .before .before .before .args in
     omega (arith, decimal-length (a .number), decimal-length (a .place))
 
 add-result : tie.Need-add-result
 add-result c =
     let place = c .before .before .before .before .before .before .before in
-    let number = place .before .before .before .before .before .before .before .before .before in
-    let a = number .before .before .before .before .before .before .before .before .args in
+    let number = place .before .before .before .before in
+    let name = number .before .before .before .before in
+    let a = name .before .before .before .before .args in
     omega (arith, decimal-length (a .number), decimal-length (a .place))
 
 returns : tie.Need-returns
@@ -39,13 +35,11 @@ unfolding refusedLine
 returns c =
     let lf = c .before .before in
     let place = lf .before .before .before .before .before in
-    let tab = place .before .before .before .before in
-    let number = tab .before .before .before .before .before in
-    let head = number .before .before .before .before in
-    let a = head .before .before .before .before .args in
-    refused-written (a .rest .now) (bytes "refused\t") (a .number) (a .place)
-    (head .put-bytes .ensures) (number .put-number-from .ensures) (tab .put-bytes-from .ensures) (place .put-number-from2 .ensures)
-    (lf .put-bytes-from2 .ensures)
+    let number = place .before .before .before .before in
+    let name = number .before .before .before .before in
+    let a = name .before .before .before .before .args in
+    refused-written (a .rest .now) (bytes "refused") (a .number) (name .put-bytes .ensures) (number .put-field-from .ensures)
+    (a .place) (place .put-field-from2 .ensures) (lf .put-bytes-from .ensures)
 
 pub put-refused-spec : {M : Type 1} → statement M
 put-refused-spec =
@@ -55,11 +49,8 @@ put-refused-spec =
     (λ c κs. search needs)
     (λ c κs. search needs)
     add-b
-    (λ c. search needs)
     (λ c κs. search needs)
     add-c
-    (λ c κs. search needs)
-    add-d
     (λ c. search needs)
     (λ c κs. search needs)
     add-result
