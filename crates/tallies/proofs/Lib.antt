@@ -1,0 +1,4 @@
+pub mod SumLaws
+pub mod AddingLaws
+pub mod JoinLaws
+pub mod SumTheorems
