@@ -1,10 +1,12 @@
-// The step of a region of a table, written over the beginning of a lent rest.
+// The step of a region of a table, written over the beginning of a lent rest, and the number of a region's parent.
 ghost use mathlib.Core.Path.{_≡_};
 ghost use Rattle.text.specs.Lines.{fields};
 ghost use Rattle.text.specs.Output.{Writes};
 ghost use Rattle.tables.specs.Head.{dimensions};
+ghost use Rattle.tables.specs.Table.{nthRegion};
 ghost use Rattle.resolve.specs.Inner.Reading.{fieldsAt, regionsAt};
 ghost use Rattle.writer.specs.Inner.Words.{stepBy, operandAt, parentNumber, lineStep};
+ghost use Rattle.stepwriter.specs.Inner.Parents.{numberOfParent};
 use gatefields::fields::is_complement;
 use gatefields::fields::is_none;
 use gatefields::fields::operand_name;
@@ -16,6 +18,7 @@ use heads::head_line;
 use resolve::Starts;
 use resolve::line_at;
 use resolve::number_of;
+use tableregions::locate;
 use writer::has_operands;
 use writer::put_header;
 use writer::put_leaf_step;
@@ -30,6 +33,19 @@ fn parent_number(text: &[u8], starts: Starts, n: usize, line: &[u8]) -> usize
         return 64;
     }
     number_of(text, starts, n, x)
+}
+
+// The number of the parent of region r of n gates; 64 for none, and where there is no such region.
+pub fn parent_at(text: &[u8], starts: Starts, n: usize, r: usize) -> usize
+    ensures { λ x. ⌜ x ≡ numberOfParent (regionsAt (now (text .entry)) (starts .at) n)
+        (nthRegion (regionsAt (now (text .entry)) (starts .at) n) r .parent) ⌝ }
+{
+    let at = locate(text, starts, n, r);
+    let gate = at.gate;
+    if n <= gate {
+        return 64;
+    }
+    parent_number(text, starts, n, line_at(text, starts, gate))
 }
 
 // Writes the step of a combination over the beginning of rest, and answers how many words it has. Its operands are among the regions of n gates.

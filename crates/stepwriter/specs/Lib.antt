@@ -1,0 +1,2 @@
+-- What is known of the parents of regions.
+pub mod Inner
