@@ -1,5 +1,6 @@
 -- Laws of the definitions.
 pub mod AcceptedLaws
+pub mod ParentLaws
 pub mod ReportLaws
 pub mod TableLaws
 pub mod InputLaws

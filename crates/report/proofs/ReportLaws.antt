@@ -4,6 +4,7 @@ use mathlib.Core.Bool.{Bool, true, false, cond}
 use mathlib.Core.Logic.{_⊎_, inl, inr}
 use mathlib.Core.List.{List, _++_}
 use Prim.Native.Nat.{ℕ, zero, suc, _+_, _*_, _<_, _≤_}
+use native.Mathlib.Nat.{mul-suc}
 use native.Mathlib.Numerals.{add-one}
 use native.Mathlib.Omega.{arith}
 use lib.Dec.{ltb, eqb}
@@ -24,9 +25,9 @@ use Rattle.tables.specs.Compile.{planOf}
 use Rattle.tables.proofs.Acceptance.{Accepted}
 use Rattle.events.specs.Parting.{tablePart}
 use Rattle.events.specs.Listing.{Events, list, ragged, eventsOf}
-use Rattle.events.specs.Printing.{countLine, takenLine, spoiltLine, refusedLine, unlessRefused}
+use Rattle.events.specs.Printing.{numbersLine, countLine, takenLine, spoiltLine, refusedLine, unlessRefused}
 use Rattle.events.proofs.PrintingLaws.{Written, WrittenFrom, written-more}
-use Rattle.report.specs.Report.{regionLine, regionLines, tallyLines, eventsLines, printed, reportOf}
+use Rattle.report.specs.Report.{regionLine, regionLines, countNumbers, tallyLines, eventsLines, printed, reportOf}
 use Rattle.report.specs.Inner.Short.{Short}
 use Rattle.compiler.proofs.VerdictLaws.{number-accepted}
 use Rattle.report.proofs.AcceptedLaws.{names-short}
@@ -51,62 +52,77 @@ taken-short n e = omega (arith, taken-length n)
 pub spoilt-short : (n : ℕ) {k : ℕ} → k ≡ length (spoiltLine n) → k ≤ 28
 spoilt-short n e = omega (arith, spoilt-length n)
 
-refused-length : (number place : ℕ) → length (refusedLine number place) ≤ 50
+pub refused-length : (number place : ℕ) → length (refusedLine number place) ≤ 50
 unfolding refusedLine
 refused-length number place = simp length-append (omega (arith, decimal-length number, decimal-length place))
 
 -- ---- regions with short names
 
-module _ (rs : List Region) (counts : List ℕ) where
-  pub lines-more : (k : ℕ) → regionLines rs counts (k + 1) ≡ regionLines rs counts k ++ regionLine rs counts k
+module _ (rs : List Region) (numbers : ℕ → List ℕ) where
+  pub lines-more : (k : ℕ) → regionLines rs numbers (k + 1) ≡ regionLines rs numbers k ++ regionLine rs numbers k
   unfolding regionLines
   lines-more k = rw add-one
 
-  pub line-length : (m k : ℕ) → Short rs m → k < m → length (regionLine rs counts k) ≤ 38
-  unfolding regionLine
-  line-length m k s h = omega (arith, count-length (nthRegion rs k .name) (getD counts k 0), s k h)
-
-  pub lines-length : (m k : ℕ) → Short rs m → k ≤ m → length (regionLines rs counts k) ≤ 38 * k
+  -- where none of the lines is longer than so much
+  pub lines-length : (most m k : ℕ) → ((r : ℕ) → r < m → length (regionLine rs numbers r) ≤ most) → k ≤ m → length (regionLines rs numbers k) ≤ most * k
   unfolding regionLines
-  lines-length m zero s h = omega arith
-  lines-length m (suc k) s h = simp length-append (omega (arith, lines-length m k s (omega arith), line-length m k s (omega arith)))
+  lines-length most m zero s h = omega arith
+  lines-length most m (suc k) s h =
+      let i : most * suc k ≡ most * k + most = mul-suc most k in
+      simp length-append (omega (arith, i, lines-length most m k s (omega arith), s k (omega arith)))
+
+-- the same numbers of each region make the same lines
+pub lines-same : (rs : List Region) (f g : ℕ → List ℕ) (k : ℕ) → ((r : ℕ) → r < k → f r ≡ g r) → regionLines rs f k ≡ regionLines rs g k
+unfolding regionLines regionLine
+lines-same rs f g zero e = refl
+lines-same rs f g (suc k) e = rw (lines-same rs f g k (λ r h. e r (omega arith)), e k (omega arith))
+
+pub line-length : (rs : List Region) (counts : List ℕ) (m : ℕ) → Short rs m → (r : ℕ) → r < m → length (regionLine rs (countNumbers counts) r) ≤ 38
+unfolding regionLine countLine
+line-length rs counts m s r h = omega (arith, count-length (nthRegion rs r .name) (getD counts r 0), s r h)
 
 -- ---- the lines written one behind the other over d
 
-module _ (rs : List Region) (counts d : List ℕ) where
-  pub lines-none : Written (regionLines rs counts 0) d 0 d
+module _ (rs : List Region) (numbers : ℕ → List ℕ) (d : List ℕ) where
+  pub lines-none : Written (regionLines rs numbers 0) d 0 d
   unfolding regionLines over
   lines-none = (refl, refl)
 
-  module _ (r at : ℕ) {x : List ℕ} (w : Written (regionLines rs counts r) d at x) where
-    pub lines-next : {y name : List ℕ} {n c : ℕ} → name ≡ nthRegion rs r .name → n ≡ getD counts r 0 → WrittenFrom at (countLine name n) x c y
-        → Written (regionLines rs counts (r + 1)) d (at + c) y
-    unfolding regionLine
-    lines-next e f v = rw (lines-more rs counts r, ← e, ← f) (written-more (regionLines rs counts r) d _ w v)
+  pub lines-next : (r at : ℕ) {x : List ℕ} → Written (regionLines rs numbers r) d at x → {y name : List ℕ} {c : ℕ} → name ≡ nthRegion rs r .name
+      → WrittenFrom at (numbersLine name (numbers r)) x c y → Written (regionLines rs numbers (r + 1)) d (at + c) y
+  unfolding regionLine
+  lines-next r at w e v = rw (lines-more rs numbers r, ← e) (written-more (regionLines rs numbers r) d _ w v)
 
-    pub lines-short : (m : ℕ) → Short rs m → r ≤ m → at ≤ 38 * r
-    lines-short m s h = omega (arith, w .0, lines-length rs counts m r s h)
+module _ (rs : List Region) (counts d : List ℕ) (r at : ℕ) {x : List ℕ} (w : Written (regionLines rs (countNumbers counts) r) d at x) where
+  pub count-next : {y name : List ℕ} {n c : ℕ} → name ≡ nthRegion rs r .name → n ≡ getD counts r 0 → WrittenFrom at (countLine name n) x c y
+      → Written (regionLines rs (countNumbers counts) (r + 1)) d (at + c) y
+  unfolding countLine
+  count-next e f v = lines-next rs (countNumbers counts) d r at w e (rw f at v)
+
+  pub lines-short : (m : ℕ) → Short rs m → r ≤ m → at ≤ 38 * r
+  lines-short m s h = omega (arith, w .0, lines-length rs (countNumbers counts) 38 m r (line-length rs counts m s) h)
 
 -- the lines of the regions, then `taken`, `spoilt`
 pub tally-written : (rs : List Region) (t : Tally) (d : List ℕ) (m : ℕ) {x y z : List ℕ} {a b c : ℕ} → m ≡ length rs
-    → Written (regionLines rs (t .counts) m) d a x
+    → Written (regionLines rs (countNumbers (t .counts)) m) d a x
     → WrittenFrom a (takenLine (t .taken)) x b y → WrittenFrom (a + b) (spoiltLine (t .spoilt)) y c z → Written (tallyLines rs t) d (a + b + c) z
 unfolding tallyLines
 tally-written rs t d m e u v w =
-    let p = regionLines rs (t .counts) (length rs) in
+    let p = regionLines rs (countNumbers (t .counts)) (length rs) in
     written-more (p ++ takenLine (t .taken)) d _ (written-more p d (takenLine (t .taken)) (rw e at u) v) w
 
 tally-length : (rs : List Region) (t : Tally) → length rs ≤ 64 → Short rs (length rs) → length (tallyLines rs t) ≤ 2487
 unfolding tallyLines
 tally-length rs t h s =
-    simp length-append (omega (arith, lines-length rs (t .counts) (length rs) (length rs) s (omega arith), taken-length (t .taken), spoilt-length (t .spoilt)))
+    let lines = lines-length rs (countNumbers (t .counts)) 38 (length rs) (length rs) (line-length rs (t .counts) (length rs) s) (omega arith) in
+    simp length-append (omega (arith, lines, taken-length (t .taken), spoilt-length (t .spoilt)))
 
 -- ---- a report has at most 4,096 bytes, so that it is never cut in a slice of so many
 
-unless-fits : (v : Verdict) (lines : List ℕ) → (v .number ≡ 0 → length lines ≤ 4096) → length (unlessRefused v lines) ≤ 4096
-unless-fits v lines f = go (passed-or-failed (eqb (v .number) 0))
+pub unless-fits : (most : ℕ) (v : Verdict) (lines : List ℕ) → 50 ≤ most → (v .number ≡ 0 → length lines ≤ most) → length (unlessRefused v lines) ≤ most
+unless-fits most v lines h f = go (passed-or-failed (eqb (v .number) 0))
   where
-    go : (eqb (v .number) 0 ≡ true) ⊎ (eqb (v .number) 0 ≡ false) → length (unlessRefused v lines) ≤ 4096
+    go : (eqb (v .number) 0 ≡ true) ⊎ (eqb (v .number) 0 ≡ false) → length (unlessRefused v lines) ≤ most
     go (inl e) = rw e (f (eqb-true (v .number) 0 e))
     go (inr e) = rw e (omega (arith, refused-length (v .number) (v .place)))
 
@@ -115,12 +131,13 @@ module _ (table : List ℕ) (a : Accepted 4096 table) where
   events-fit (ragged line) = omega (arith, refused-length 23 line)
   events-fit (list values) =
       let c = countOf (planOf table) values in
-      unless-fits (c .verdict) (tallyLines (regions (gates table)) (c .tally))
+      unless-fits 4096 (c .verdict) (tallyLines (regions (gates table)) (c .tally)) (omega arith)
       (λ e. omega (arith, tally-length (regions (gates table)) (c .tally) (a .rules .few) (names-short 4096 table a)))
 
 printed-fits : (table : List ℕ) (es : Events) → length (printed table es) ≤ 4096
 unfolding printed
-printed-fits table es = unless-fits (tableVerdict 4096 table) (eventsLines table es) (λ e. events-fit table (number-accepted 4096 table e) es)
+printed-fits table es =
+    unless-fits 4096 (tableVerdict 4096 table) (eventsLines table es) (omega arith) (λ e. events-fit table (number-accepted 4096 table e) es)
 
 pub report-fits : (input : List ℕ) → length (reportOf input) ≤ 4096
 unfolding reportOf

@@ -1,7 +1,7 @@
 -- What `gatecount` prints (01: "It prints name and count per region in table order, then `taken`, `spoilt`; or `refused`, number, place").
 use Prim.Native.Nat.{ℕ, zero, suc}
 use mathlib.Core.Bool.{cond}
-use mathlib.Core.List.{List, [], _++_}
+use mathlib.Core.List.{List, [], _∷_, _++_}
 use lib.Dec.{ltb}
 use lib.ListN.{length, getD}
 use Rattle.counter.specs.declared.Tally.{Tally}
@@ -13,22 +13,26 @@ use Rattle.tables.specs.Refusals.{tableVerdict}
 use Rattle.tables.specs.Compile.{planOf}
 use Rattle.events.specs.Parting.{tablePart}
 use Rattle.events.specs.Listing.{Events, list, ragged, eventsOf}
-use Rattle.events.specs.Printing.{countLine, takenLine, spoiltLine, refusedLine, unlessRefused}
+use Rattle.events.specs.Printing.{numbersLine, takenLine, spoiltLine, refusedLine, unlessRefused}
 
 -- ---- counts
 
--- the line of region r: its name and its count
-unfoldable pub regionLine : List Region → List ℕ → ℕ → List ℕ
-regionLine rs counts r = countLine (nthRegion rs r .name) (getD counts r 0)
+-- the line of region r: its name and its numbers
+unfoldable pub regionLine : List Region → (ℕ → List ℕ) → ℕ → List ℕ
+regionLine rs numbers r = numbersLine (nthRegion rs r .name) (numbers r)
 
 -- the lines of the first k regions, in table order
-unfoldable pub regionLines : List Region → List ℕ → ℕ → List ℕ
-regionLines rs counts zero = []
-regionLines rs counts (suc k) = regionLines rs counts k ++ regionLine rs counts k
+unfoldable pub regionLines : List Region → (ℕ → List ℕ) → ℕ → List ℕ
+regionLines rs numbers zero = []
+regionLines rs numbers (suc k) = regionLines rs numbers k ++ regionLine rs numbers k
+
+-- the number of region r is its count
+abbrev pub countNumbers : List ℕ → ℕ → List ℕ
+countNumbers counts r = getD counts r 0 ∷ []
 
 -- name and count per region, then `taken`, `spoilt`
 unfoldable pub tallyLines : List Region → Tally → List ℕ
-tallyLines rs t = (regionLines rs (t .counts) (length rs) ++ takenLine (t .taken)) ++ spoiltLine (t .spoilt)
+tallyLines rs t = (regionLines rs (countNumbers (t .counts)) (length rs) ++ takenLine (t .taken)) ++ spoiltLine (t .spoilt)
 
 -- ---- refusals
 

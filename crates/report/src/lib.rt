@@ -8,7 +8,7 @@ ghost use Rattle.tables.specs.Head.{gates};
 ghost use Rattle.tables.specs.Refusals.{tableVerdict};
 ghost use Rattle.resolve.specs.Inner.Reading.{gatesAt};
 ghost use Rattle.events.specs.Listing.{list, ragged};
-ghost use Rattle.report.specs.Report.{regionLines, tallyLines, printed, reportOf};
+ghost use Rattle.report.specs.Report.{regionLines, countNumbers, tallyLines, printed, reportOf};
 ghost use Rattle.report.specs.Inner.Short.{Printable};
 use compiler::Acceptance;
 use compiler::number_of;
@@ -47,7 +47,8 @@ fn put_regions(
     tally: Tally,
 ) -> usize
     requires { ⌜ Printable (regions (gatesAt (now text) (starts .at) n)) m ⌝ }
-    ensures { λ r. ⌜ Writes (regionLines (regions (gatesAt (now (text .entry)) (starts .at) n)) (tally .counts) m) (now (out .entry)) (now (out .exit)) r ⌝ }
+    ensures { λ r. ⌜ Writes (regionLines (regions (gatesAt (now (text .entry)) (starts .at) n)) (countNumbers (tally .counts)) m)
+        (now (out .entry)) (now (out .exit)) r ⌝ }
     ensures { λ r. ⌜ r ≤ 2432 ⌝ }
 {
     let mut at: usize = 0;

@@ -8,13 +8,14 @@ use Rattle.text.proofs.OutputLaws.{over-length}
 use Rattle.gates.specs.Gate.{regions}
 use Rattle.resolve.specs.Inner.Reading.{gatesAt}
 use Rattle.events.proofs.PrintingLaws.{Written}
-use Rattle.report.specs.Report.{regionLines}
-use Rattle.report.proofs.ReportLaws.{lines-none, lines-next, lines-short}
+use Rattle.report.specs.Report.{regionLines, countNumbers}
+use Rattle.report.proofs.ReportLaws.{lines-none, count-next, lines-short}
 use Rattle.report.proofs.put_regions.Statement.{statement}
 use Rattle.report.proofs.put_regions.Tie as tie
 
 abbrev Inv-loop : tie.InvT-loop
-Inv-loop out₀ text starts n m tally at₀ r₀ out at r = (r ≤ m) × Written (regionLines (regions (gatesAt text (starts .at) n)) (tally .counts) r) out₀ at out
+Inv-loop out₀ text starts n m tally at₀ r₀ out at r =
+    (r ≤ m) × Written (regionLines (regions (gatesAt text (starts .at) n)) (countNumbers (tally .counts)) r) out₀ at out
 
 abbrev μ-loop : tie.MeasureT-loop
 μ-loop out₀ text starts n m tally at₀ r₀ out at r = m - r
@@ -33,7 +34,7 @@ add-at c =
     let pre = e .pre in
     let rs = regions (gatesAt (a .text .now) (a .starts .at) (a .n)) in
     let w =
-    lines-next rs (a .tally .counts) (a .out .now) (loop .r) (loop .at) (loop .inv .1) (g .name-at .ensures)
+    count-next rs (a .tally .counts) (a .out .now) (loop .r) (loop .at) (loop .inv .1) (g .name-at .ensures)
     (p .before .count-at .ensures) (p .put-count-from .ensures) in
     omega (arith, pre .0, lines-short rs (a .tally .counts) (a .out .now) (loop .r + 1) _ w (a .m) (pre .2) (omega arith))
 
@@ -45,7 +46,7 @@ loop-again c =
     let e = l .before .before .before in
     let loop = l .loop in (
       search needs,
-      lines-next _ _ _ (loop .r) (loop .at) (loop .inv .1) (g .name-at .ensures) (p .before .count-at .ensures)
+      count-next _ (e .args .tally .counts) _ (loop .r) (loop .at) (loop .inv .1) (g .name-at .ensures) (p .before .count-at .ensures)
           (p .put-count-from .ensures),
     )
 
