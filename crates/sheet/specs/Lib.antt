@@ -1,0 +1,3 @@
+-- What `gatesheet` prints of an input.
+pub mod Sheet
+pub mod Inner
