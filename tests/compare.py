@@ -2,6 +2,7 @@
 """Compares a real gate counter with the reference, which was written apart from it.
 
     tests/compare.py --gatecount PATH [--plans PATH] [--questions WORDS] [--seed S] [--inputs N] [--keep FOLDER]
+    tests/compare.py --gatesheet PATH ...   the sheet of several lists, by itself or with the others
     tests/compare.py --plant FAULT ...      with a fault planted in the reference
     tests/compare.py --mutations ...        each planted fault in turn: all must be seen
     tests/compare.py --mutations walk- ...  those whose names begin so
@@ -17,6 +18,13 @@ What is compared:
   must give each region the same count under its name, and the same taken and spoilt.
 * In what the real program prints, the counts of a quadrant gate's quadrants must add up
   to the count of its parent, or to the taken when it has none.
+* Each of N generated standard inputs with any number of lists goes through the executable
+  at --gatesheet: its standard output must be the reference's, byte for byte.  Where it is
+  accepted, what the real program prints must add up by itself (sums, shares, quadrants, and
+  the last line against taken, spoilt and the lines of the lists), its sums must be what
+  `gatecount` prints for the joined lists (that of --gatecount, else the reference's), and
+  for some tables each line must have the same numbers under its name whatever the order of
+  the gate lines.
 * Each of N generated questions goes to the executable at --plans, and its answer must
   be the reference's, word for word; --questions picks those of some words only.
 * For some accepted tables that executable compiles the lines in several orders and judges
@@ -231,6 +239,60 @@ def quadrants_add_up(data, output):
     return True
 
 
+# ---------------------------------------------------------------- printed sheets
+
+def printed_sheet(output):
+    """(numbers by name of region, those of taken, those of spoilt, that of events) of an accepted input, or None."""
+    if refusal(output) != 0 or output[-1:] != b'\n':
+        return None
+    try:
+        lines = [line.split(b'\t') for line in output.split(b'\n')[:-1]]
+        rows = [(fields[0], [int(field) for field in fields[1:]]) for fields in lines]
+    except ValueError:
+        return None
+    if [name for name, _ in rows[-3:]] != [b'taken', b'spoilt', b'events']:
+        return None
+    return dict(rows[:-3]), rows[-3][1], rows[-2][1], rows[-1][1]
+
+
+def sheet_adds_up(data, output):
+    """Whether what is printed for an accepted input fits its lists and adds up by itself."""
+    printed = printed_sheet(output)
+    if printed is None:
+        return False
+    regions, taken, spoilt, events = printed
+    lists = gates.part_lists(data)[1]
+    if any(len(row) != len(lists) + 1 or sum(row[:-1]) != row[-1] for row in [taken, spoilt] + [row[:-2] for row in regions.values()]):
+        return False
+    for gate in [gates.read_gate(fields) for fields in table_fields(data)]:
+        if any(name not in regions for name in gate.regions()) or gate.parent not in (b'-', *regions):
+            return False
+        whole = taken if gate.parent == b'-' else regions[gate.parent][:-2]
+        for row in [regions[name] for name in gate.regions()]:
+            if row[-2:] != [row[-3], whole[-1]]:
+                return False
+        if gate.kind == b'quad' and [sum(column) for column in zip(*[regions[name][:-2] for name in gate.regions()])] != whole:
+            return False
+    columns = [one + other for one, other in zip(taken, spoilt)]
+    held = [len(lines) for _, _, lines in lists]
+    return columns == held + [sum(held)] and events == [sum(held)]
+
+
+def joined_lists(data):
+    """An input of `gatecount` with the events of all lists in one."""
+    table, lists = gates.part_lists(data)
+    return table + b'events\n' * bool(lists) + b''.join([line for _, _, lines in lists for line in lines])
+
+
+def printed_sums(output):
+    """(sums by name of region, of taken, of spoilt) of an accepted input, or None."""
+    printed = printed_sheet(output)
+    if printed is None or any(len(row) < 3 for row in printed[0].values()) or not printed[1] or not printed[2]:
+        return None
+    regions, taken, spoilt, _ = printed
+    return {name: row[-3] for name, row in regions.items()}, taken[-1], spoilt[-1]
+
+
 # ---------------------------------------------------------------- the comparison
 
 class Comparison:
@@ -242,6 +304,8 @@ class Comparison:
         self.labels = collections.Counter()
         self.questions = collections.Counter()
         self.orders = self.sums = 0
+        self.sheets = collections.Counter()
+        self.lists = collections.Counter()
         self.judged = collections.Counter()
 
     def note(self, good, what, given=b'', expected=b'', actual=b''):
@@ -298,6 +362,46 @@ class Comparison:
                 self.note(good, 'quadrant sums of input %d in order %d' % (number, turn),
                           data, expected, actual)
 
+    def one_sheet(self, number):
+        case = generate.sheet(self.options.seed, number)
+        expected = self.reference(gates.gatesheet, case.data)
+        actual = run(self.options.gatesheet, case.data)
+        what = 'sheet %d (%s)' % (number, case.label)
+        self.labels[case.label] += 1
+        self.refusals[refusal(expected)] += 1
+        self.note(actual == expected, what, case.data, expected, actual)
+        if refusal(expected) != 0:
+            return
+        lists = len(gates.part_lists(case.data)[1])
+        self.lists[next(most for most in (0, 1, 2, 4, 8, 64, 256, 1024, 10000) if lists <= most)] += 1
+        self.whole_sheet(what, case.data, expected, actual)
+        if case.lines:
+            self.other_sheets(number, case, actual)
+
+    def whole_sheet(self, what, data, expected, actual):
+        """What is printed adds up, and its sums are one count over the joined lists."""
+        self.sheets['added up'] += 1
+        self.note(sheet_adds_up(data, actual), 'sums of ' + what, data, expected, actual)
+        joined = joined_lists(data)
+        counted = run(self.options.gatecount, joined) if self.options.gatecount else self.reference(gates.gatecount, joined)
+        sums = printed_sums(actual)
+        self.sheets['joined'] += 1
+        self.note(sums is not None and sums == printed_counts(counted), 'joined lists of ' + what, joined, counted, actual)
+
+    def other_sheets(self, number, case, first):
+        """The same numbers by name whatever the order of the gate lines, by the real program alone."""
+        rng = random.Random('%s sheet order %d' % (self.options.seed, number))
+        for turn, table in enumerate(generate.orders(rng, case.lines, self.options.orders)):
+            data = table + case.list
+            actual = run(self.options.gatesheet, data)
+            self.sheets['other orders'] += 1
+            printed = printed_sheet(actual)
+            self.note(printed is not None and printed == printed_sheet(first), 'order %d of sheet %d' % (turn, number), data, first, actual)
+            expected = self.reference(gates.gatesheet, data)
+            what = 'sheet %d in order %d' % (number, turn)
+            self.note(actual == expected, what, data, expected, actual)
+            self.whole_sheet(what, data, expected, actual)
+
     def some_questions(self, asked):
         asked = [(label, question) for label, question in asked if question[0] in self.options.questions]
         lines = [question_line(question) for _, question in asked]
@@ -339,6 +443,13 @@ class Comparison:
         for some in iter(lambda: list(itertools.islice(edges, BATCH)), []):
             self.some_questions(some)
 
+    def tell_inputs(self, what):
+        print('%s: %s' % (what, spread(self.labels)))
+        print('refusals: ' + spread({'accepted' if number == 0 else number: times
+                                     for number, times in sorted(self.refusals.items())}, False))
+        self.labels.clear()
+        self.refusals.clear()
+
     def run(self):
         options = self.options
         if options.edges:
@@ -346,12 +457,17 @@ class Comparison:
         if options.gatecount:
             for number in range(options.inputs):
                 self.one_input(number)
-            print('standard inputs: ' + spread(self.labels))
-            print('refusals: ' + spread({'accepted' if number == 0 else number: times
-                                         for number, times in sorted(self.refusals.items())}, False))
+            self.tell_inputs('standard inputs')
             print('kinds in accepted tables: ' + spread({kind.decode(): times
                                                          for kind, times in self.kinds.items()}))
             print('other orders run: %d; quadrant sums: %d' % (self.orders, self.sums))
+        if options.gatesheet:
+            for number in range(options.inputs):
+                self.one_sheet(number)
+            self.tell_inputs('standard inputs with lists')
+            print('accepted, by their lists: ' + spread({'%s %d:' % ('up to' if most else 'just', most): times
+                                                         for most, times in sorted(self.lists.items())}, False))
+            print('sheets: ' + spread(self.sheets))
         if options.plans:
             for start in range(0, options.inputs, BATCH):
                 self.some_questions([generate.request(options.seed, number) for number in range(start, min(start + BATCH, options.inputs))])
@@ -381,10 +497,13 @@ def short(output):
 def mutations(options):
     """Asks the real program once and lays each planted fault beside its answers."""
     seen_failed = 0
-    inputs, questions = [], []
+    inputs, sheets, questions = [], [], []
     if options.gatecount:
         data = [generate.case(options.seed, number).data for number in range(options.inputs)]
         inputs = [(each, run(options.gatecount, each)) for each in data]
+    if options.gatesheet:
+        data = [generate.sheet(options.seed, number).data for number in range(options.inputs)]
+        sheets = [(each, run(options.gatesheet, each)) for each in data]
     if options.plans:
         asked = [generate.request(options.seed, number)[1] for number in range(options.inputs)]
         asked = [question for question in asked if question[0] in options.questions]
@@ -399,6 +518,12 @@ def mutations(options):
             if gates.gatecount(given) != actual:
                 found.append('input %d' % number)
                 if len(found) == limit:
+                    break
+        enough = len(found) + limit
+        for number, (given, actual) in enumerate(sheets):
+            if gates.gatesheet(given) != actual:
+                found.append('sheet %d' % number)
+                if len(found) == enough:
                     break
         enough = len(found) + limit
         for number, (question, actual) in enumerate(questions):
@@ -427,6 +552,7 @@ def mutations(options):
 def main():
     parser = argparse.ArgumentParser(description='Compare a gate counter with the reference.')
     parser.add_argument('--gatecount', type=command, metavar='PATH')
+    parser.add_argument('--gatesheet', type=command, metavar='PATH')
     parser.add_argument('--plans', type=command, metavar='PATH')
     parser.add_argument('--questions', type=lambda words: words.split(','), metavar='WORDS',
                         default=['check', 'judge', 'count', 'compile'], help='which of check,judge,count,compile are asked')
@@ -439,8 +565,8 @@ def main():
     parser.add_argument('--mutations', nargs='?', const='', metavar='BEGINNING', help='the faults whose names begin so, or all')
     parser.add_argument('--edges', action='store_true', help='asks --plans of an event on each edge of polygons of each size, instead of N inputs')
     options = parser.parse_args()
-    if not options.gatecount and not options.plans:
-        parser.error('neither --gatecount nor --plans is given')
+    if not options.gatecount and not options.gatesheet and not options.plans:
+        parser.error('none of --gatecount, --gatesheet and --plans is given')
     if options.edges and not options.plans:
         parser.error('--edges asks the program at --plans')
 

@@ -13,6 +13,7 @@ Names and table text are bytes throughout, since a table is bytes.
     members(table, event)             -> set of region names, with no plan between
     outlined(table, event)            -> those of them on whose own outline the event is
     gatecount(data)                   -> the program's whole standard output
+    gatesheet(data)                   -> and that of the program for several lists (02 e)
 
 A number of 0 (with place 0) says that nothing was refused.  `bits` and `outline` are sets
 of 64 bits, bit r for region r: the members, and those that are on the region's outline.
@@ -978,22 +979,45 @@ def outlined(table, event):
     return outlines(table)(event)
 
 
-# ---------------------------------------------------------------- the program
+# ---------------------------------------------------------------- the programs
+
+EVENTS = (b'events\n', b'events')       # the line before a list, which may lack its LF at the end of an input
+
+
+def input_lines(data):
+    """The lines of an input, which keep their LF, so that a missing one shows."""
+    lines = data.split(b'\n')
+    # The piece after the last LF is a line only when there is something in it.
+    open_line = lines.pop()
+    return [line + b'\n' for line in lines] + ([open_line] if open_line else [])
+
 
 def part_input(data):
     """(table, list lines, line number of `events` or None, whether it has its LF).
 
-    The first line that is exactly `events` parts the input.  The list lines keep
-    their LF, so that a missing one shows.
+    The first line that is exactly `events` parts the input.
     """
-    lines = data.split(b'\n')
-    # The piece after the last LF is a line only when there is something in it.
-    open_line = lines.pop()
-    whole = [line + b'\n' for line in lines] + ([open_line] if open_line else [])
-    for number, line in enumerate(whole, 1):
-        if line in (b'events\n', b'events'):
-            return b''.join(whole[:number - 1]), whole[number:], number, line[-1:] == b'\n'
+    lines = input_lines(data)
+    for number, line in enumerate(lines, 1):
+        if line in EVENTS:
+            return b''.join(lines[:number - 1]), lines[number:], number, line[-1:] == b'\n'
     return data, [], None, True
+
+
+def part_lists(data):
+    """(table, lists) where a line `events` stands before each list.
+
+    A list is the number of that line in the whole input, whether it has its LF, and the
+    lines up to the next one.
+    """
+    table, lines, events_line, closed = part_input(data)
+    lists = [] if events_line is None else [(events_line, closed, [])]
+    for number, line in enumerate(lines, (events_line or 0) + 1):
+        if line in EVENTS:
+            lists.append((number, line[-1:] == b'\n', []))
+        else:
+            lists[-1][2].append(line)
+    return table, lists
 
 
 def event_values(line, n):
@@ -1006,8 +1030,28 @@ def event_values(line, n):
     return [number_value(field) for field in fields]
 
 
+def read_lists(lists, n):
+    """(None, the values of each list), or the lowest bad line over all lists (23) and None."""
+    values = []
+    for events_line, closed, lines in lists:
+        if not closed:
+            return events_line, None
+        values.append([])
+        for number, line in enumerate(lines, events_line + 1):
+            event = event_values(line, n)
+            if event is None:
+                return number, None
+            # A number beyond 32 bits stays what it is here and so spoils its event.
+            values[-1] += event
+    return None, values
+
+
 def refused(number, place):
     return b'refused\t%d\t%d\n' % (number, place)
+
+
+def printed_line(name, *numbers):
+    return b'\t'.join([name] + [b'%d' % number for number in numbers]) + b'\n'
 
 
 def gatecount(data):
@@ -1018,17 +1062,55 @@ def gatecount(data):
     number, place, words, names = compile_table(table, PLAN_WORDS)
     if number:
         return refused(number, place)
-    if not closed:
-        return refused(23, events_line)
-    values = []
-    for offset, line in enumerate(lines, 1):
-        event = event_values(line, words[0])
-        if event is None:
-            return refused(23, events_line + offset)
-        # A number beyond 32 bits stays what it is here and so spoils its event.
-        values += event
-    number, place, taken, spoilt, counts = count(words, values)
+    # One list only: a second `events` is a line of it.
+    place, lists = read_lists([] if events_line is None else [(events_line, closed, lines)], words[0])
+    if place is not None:
+        return refused(23, place)
+    number, place, taken, spoilt, counts = count(words, lists[0] if lists else [])
     if number:
         return refused(number, place)
-    printed = [b'%s\t%d\n' % (name, counts[region]) for region, name in enumerate(names)]
-    return b''.join(printed) + b'taken\t%d\nspoilt\t%d\n' % (taken, spoilt)
+    printed = [printed_line(name, counts[region]) for region, name in enumerate(names)]
+    return b''.join(printed) + printed_line(b'taken', taken) + printed_line(b'spoilt', spoilt)
+
+
+# ---------------------------------------------------------------- 02 e: several lists
+
+def region_parents(table):
+    """The parent of each region of an accepted table, in table order; that of a quadrant is its gate's."""
+    return [gate.parent for gate in read_table(table)[3] for _ in gate.regions()]
+
+
+def sheet_rows(names, parents, tallies, events):
+    """The lines of a sheet, each a name and its numbers.
+
+    A tally is (taken, spoilt, counts), one for each list; `events` is the number of events that
+    the lists hold.  The sum stands behind the columns.  Behind that of a region stand, over all
+    lists, its count once more and its parent's, or the taken where it has none.
+    """
+    takens = [taken for taken, _, _ in tallies]
+    spoilts = [spoilt for _, spoilt, _ in tallies]
+    columns = {name: [counts[region] for _, _, counts in tallies] for region, name in enumerate(names)}
+    rows = []
+    for name, parent in zip(names, parents):
+        whole = takens if parent == b'-' else columns[parent]
+        rows.append([name, *columns[name], sum(columns[name]), sum(columns[name]), sum(whole)])
+    rows.append([b'taken', *takens, sum(takens)])
+    rows.append([b'spoilt', *spoilts, sum(spoilts)])
+    rows.append([b'events', events])
+    return rows
+
+
+def gatesheet(data):
+    """The whole standard output of the cruise sheet for a standard input."""
+    if len(data) > INPUT_BYTES:
+        return refused(1, 0)
+    table, lists = part_lists(data)
+    number, place, words, names = compile_table(table, PLAN_WORDS)
+    if number:
+        return refused(number, place)
+    place, values = read_lists(lists, words[0])
+    if place is not None:
+        return refused(23, place)
+    tallies = [count(words, each)[2:] for each in values]
+    events = sum(len(each) // words[0] for each in values)
+    return b''.join(printed_line(*row) for row in sheet_rows(names, region_parents(table), tallies, events))

@@ -3,6 +3,7 @@
 Everything hangs on a seed and a number only, so each input can be made again alone:
 
     case(seed, number)      one standard input for `gatecount`
+    sheet(seed, number)     one for `gatesheet`
     request(seed, number)   one question about a plan or a table
     each_edge(seed)         questions about events on each edge of polygons of every size
     judged(seed, number)    a table, and events to be judged under other orders of its lines
@@ -1874,9 +1875,14 @@ def with_events(table, count):
 
 
 def accepted(label, table, count, orders=False):
-    list_ = with_events(table, count)
+    return accepted_sheet(label, table, [count], orders)
+
+
+def accepted_sheet(label, table, counts, orders=False):
+    """A list of so many events for each of the counts."""
+    lists = b''.join([with_events(table, count) for count in counts])
     lines = [table.head()] + [line.bytes() for line in table.lines] if orders else None
-    return Case(label, table.bytes() + list_, (0,), lines, list_)
+    return Case(label, table.bytes() + lists, (0,), lines, lists)
 
 
 def case_small(rng):
@@ -2221,6 +2227,298 @@ def orders(rng, lines, k):
         if mixed != gate_lines:
             tables.append(join([head] + mixed))
     return tables
+
+
+# ---------------------------------------------------------------- inputs with several lists
+
+BAD_LINES = (b'', b'\t', b'events\r', b'events\t', b' events', b'events ', b'Events', b'events\x00', b'events\tevents', b'event', b'eventss', b'taken',
+             b'events\t1', b'1\tevents', b'dims\tA', b'rect\tX\t-\tA\t0\t1')
+
+
+def kin_table(rng):
+    """Boxes and quadrants in one another, some of them in no parent: shares of many kinds."""
+    table = Table(rng, n=rng.choice((1, 2, 3)), span=rng.choice(((-5, 5), (-5, 5), (-20, 20))))
+    table.most = 40
+    for _ in range(rng.randint(1, 3)):
+        table.parents = 0.0 if rng.random() < 0.2 else 0.9
+        line = table.rect()
+        if rng.random() < 0.7:      # a wide one has members for its children
+            line.fields[4:6] = [b'*', rng.choice((b'*', b'4'))]
+        rng.choice((table.rect, table.quad, table.quad, table.gate))()
+    return table.mix()
+
+
+def sheet_table(rng):
+    makers = (kin_table, small_table, referring_table, outline_table, chain_table, full_table)
+    return rng.choices(makers, (12, 8, 6, 3, 1, 1))[0](rng)
+
+
+def list_counts(rng):
+    """The number of events of each list: no list to a dozen, some of them empty."""
+    return [rng.choice((0, 0, 1, 1, 2, 3, 5, 8)) for _ in range(rng.choice((0, 1, 1, 2, 2, 2, 3, 3, 3, 4, 5, 8, 12)))]
+
+
+def sheet_few(rng):
+    return accepted_sheet('few lists', sheet_table(rng), list_counts(rng), orders=rng.random() < 0.2)
+
+
+def sheet_kin(rng):
+    return accepted_sheet('shares', kin_table(rng), [rng.choice((0, 3, 6, 12)) for _ in range(rng.randint(1, 4))], orders=rng.random() < 0.25)
+
+
+def sheet_empty(rng):
+    """Lists without events: the first, the last, both, all, every other."""
+    lists = rng.randint(1, 6)
+    counts = [rng.randint(1, 4) for _ in range(lists)]
+    for empty in rng.choice(([0], [-1], [0, -1], range(lists), range(0, lists, 2), range(1, lists, 2))):
+        counts[empty] = 0
+    return accepted_sheet('empty lists', sheet_table(rng), counts, orders=rng.random() < 0.1)
+
+
+def sheet_many_lists(rng, lists=None):
+    """Lists of few events, somewhat more or less than a few times 64 or a few hundred."""
+    lists = lists or rng.choice((many(rng), 255, 256, 257, 300))
+    return accepted_sheet('many lists', rng.choice((kin_table, small_table))(rng), [rng.choice((0, 0, 1, 1, 2)) for _ in range(lists)])
+
+
+def sheet_long_lists(rng):
+    """Lists of somewhat more or less than a few times 64 events."""
+    return accepted_sheet('long lists', rng.choice((kin_table, small_table))(rng), [many(rng) for _ in range(rng.randint(1, 4))])
+
+
+def sheet_far(rng):
+    """Numbers beyond 32 bits, and lists of spoilt events alone."""
+    table = sheet_table(rng)
+    lists = [rng.choice((far_list(table), far_list(table), b'', join([b'\t'.join([b'70000'] * table.n)] * 2))) for _ in range(rng.randint(1, 5))]
+    return Case('far numbers in lists', table.bytes() + b''.join([b'events\n' + each for each in lists]), (0,))
+
+
+def bad_line(rng, line, n):
+    """A line that isn't n numbers, nor the line `events`."""
+    fields = line.split(b'\t')
+    style = rng.randrange(6)
+    if style == 0:
+        return b'\t'.join(fields[1:])
+    if style == 1:
+        return b'\t'.join(fields + [rng.choice((b'0', b'7', b'9' * 40, b''))])
+    if style == 2:
+        return rng.choice(BAD_LINES)
+    if style == 3:
+        return line + rng.choice((b'\r', b' ', b'\t', b'\x00'))
+    fields[rng.randrange(n)] = rng.choice([field for field in BAD_EVENTS if field != b'events' or n > 1])
+    return b'\t'.join(fields)
+
+
+def bad_lists(table):
+    """Several lists with one to three bad lines, and the lowest of these, counted from 1 at the first line `events`."""
+    rng = table.rng
+    lines = []
+    for count in [rng.choice((0, 1, 1, 2, 3, 5)) for _ in range(rng.choice((0, 1, 2, 2, 3, 5)))] + [rng.randint(1, 3)]:
+        lines += [b'events'] + event_lines(table.events(count))
+    places = [at for at, line in enumerate(lines) if line != b'events']
+    chosen = rng.sample(places, min(len(places), rng.choice((1, 1, 2, 2, 3))))
+    for at in chosen:
+        lines[at] = bad_line(rng, lines[at], table.n)
+    last = b'\n' if rng.random() < 0.9 else b''
+    if not last and not lines[-1]:      # nothing behind the last LF is no line
+        last = b'\n'
+    return b'\n'.join(lines) + last, min(chosen) + 1
+
+
+def sheet_bad_lines(rng):
+    table = sheet_table(rng)
+    lists, place = bad_lists(table)
+    return Case('bad lines in lists', table.bytes() + lists, (23,), place=len(table.lines) + 1 + place)
+
+
+def sheet_late_bad_line(rng):
+    """All lists are good but the last, whose last line is bad."""
+    table = rng.choice((kin_table, small_table))(rng)
+    data = table.bytes() + b''.join([with_events(table, rng.randint(0, 3)) for _ in range(rng.choice((1, 2, 3, 40)))])
+    data += with_events(table, rng.choice((0, 0, 2))) + bad_line(rng, event_lines(table.events(1))[0], table.n) + b'\n'
+    return Case('bad line at the end', data, (23,), place=data.count(b'\n'))
+
+
+def sheet_broken(rng, style=None):
+    """Good numbers of the right number in all, but not by lines: two events on a line, one on two lines or in two lists."""
+    table = rng.choice((kin_table, small_table))(rng)
+    style = rng.randrange(3) if style is None else style
+    data = table.bytes() + b''.join([with_events(table, rng.randint(0, 2)) for _ in range(rng.randint(0, 2))]) + with_events(table, rng.randint(0, 2))
+    one, other = event_lines(table.events(2))
+    place = data.count(b'\n') + 1
+    if style == 0 or table.n == 1:
+        data += one + b'\t' + other + b'\n'
+    else:
+        fields, cut = one.split(b'\t'), rng.randrange(1, table.n)
+        data += join([b'\t'.join(fields[:cut])] + [b'events'] * (style == 2) + [b'\t'.join(fields[cut:])])
+    return Case('broken event', data + rng.choice((b'', with_events(table, 1))), (23,), place=place)
+
+
+def sheet_open(rng, style=None):
+    """The last line of several lists without LF: an event, or `events`."""
+    table = sheet_table(rng)
+    data = table.bytes() + b''.join([with_events(table, rng.randint(0, 3)) for _ in range(rng.randint(0, 3))])
+    style = rng.randrange(3) if style is None else style
+    data += (b'events', with_events(table, 0) + b'events', with_events(table, rng.randint(1, 3))[:-1])[style]
+    return Case('lists open', data, (23,), place=data.count(b'\n') + 1)
+
+
+CHANGED_EVENTS = (b'events\r\n', b'events\t\n', b' events\n', b'Events\n', b'events \n', b'events\x00\n')
+
+
+def sheet_forms(rng, style=None, changed=None):
+    """Lines `events` that are missing, changed, alone or one after the other."""
+    table = sheet_table(rng)
+    data, first, second = table.bytes(), with_events(table, 2), with_events(table, 1)
+    changed = changed or rng.choice(CHANGED_EVENTS)
+    style = rng.randrange(9) if style is None else style
+    if style == 0:
+        return Case('no list', data, (0,))
+    if style == 1:
+        return Case('no list, open', data[:-1], (2,))
+    if style == 2:
+        return Case('events changed before the lists', data + changed + first + second, (4,), place=len(table.lines) + 2)
+    if style == 3:
+        return Case('events changed behind a list', data + first + changed + second, (23,), place=len(table.lines) + 5)
+    if style == 4:
+        return Case('no table', b''.join((b'events\n', first, second)[rng.randrange(3):]), (2,), place=0)
+    if style == 5:
+        return Case('events one after the other', data + b'events\n' * rng.randint(1, 5) + rng.choice((b'', first)), (0,))
+    if style == 6:
+        return Case('empty line behind a list', data + first + b'\n' + second, (23,), place=len(table.lines) + 5)
+    if style == 7:
+        return Case('table behind a list', data + first + data + second, (23,), place=len(table.lines) + 5)
+    return Case('tiny input with lists', rng.choice((
+        b'events\nevents', b'events\nevents\n', b'dims\tA\nevents\nevents', b'dims\tA\nevents\nevents\n', b'dims\tA\nevents\n1\nevents\n2',
+        b'dims\tA\nevents\n1\nevents\n\n', b'dims\tA\nevents\n\nevents\n', b'dims\tA\n\nevents\nevents\n', b'dims\tevents\nevents\nevents\n5\n',
+        b'dims\tA\nevents\nevents\revents\n', b'dims\tA\nevents\nevents\n1\t2\nevents\nx\n')))
+
+
+def sheet_of_case(rng, given=None):
+    """An input of `gatecount` as it is, or with further lists behind it."""
+    given = given or rng.choices(_MAKERS, _WEIGHTS)[0](rng)
+    data, refusals = given.data, given.refusals
+    if given.label == 'events twice':
+        refusals = (0,)
+    if data[-1:] == b'\n' and rng.random() < 0.8:
+        lines = [line for line in gates.part_input(data)[1] if line != b'events\n']
+        for _ in range(rng.choice((1, 1, 2, 3))):
+            data += b'events\n' + b''.join(rng.sample(lines, min(len(lines), rng.choice((0, 1, 3)))))
+        if len(data) > 65536:
+            return Case(given.label + ' with lists', data, (1,), place=0)
+    return Case(given.label + ' with lists', data, refusals, place=given.place)
+
+
+def sheet_table_first(rng, given=None):
+    """A table that is refused, and bad lists behind it, which aren't told of."""
+    given = given or rng.choice((case_one_fault, case_many_faults, case_twin, case_dead, case_circle, case_crowded, case_head))(rng)
+    table = gates.part_input(given.data)[0]
+    return Case('table and lists bad', table + bad_lists(small_table(rng))[0], given.refusals, place=given.place)
+
+
+def sheet_rough(rng):
+    """Bytes or fields of table and lists changed without a thought."""
+    table = small_table(rng)
+    return Case('rough lists', rough_damage(rng, table.bytes() + b''.join([with_events(table, count) for count in list_counts(rng)])))
+
+
+def sheet_rough_lists(rng):
+    """The same of the lists alone: a line `events` may be lost, doubled or spoilt."""
+    table = small_table(rng)
+    lists = b''.join([with_events(table, rng.randint(0, 3)) for _ in range(rng.randint(1, 4))])
+    return Case('rough lists', table.bytes() + b'events\n' + rough_damage(rng, lists))
+
+
+def sheet_size(rng, size=None):
+    """Inputs of 65,536 bytes and one more, in several lists of long numbers and short ones."""
+    size = size or rng.choice((65535, 65536, 65537, 32768, 32769, 40000))
+    table = rng.choice((kin_table, small_table))(rng)
+    data = table.bytes() + with_events(table, 3) + with_events(table, 2)
+    rest = b'\t0' * (table.n - 1) + b'\n'
+    while size - len(data) > 9000:
+        data += rng.choice((b'', b'events\n')) + b'8' * rng.randint(2000, 8000) + rest
+    data += b'7' * (size - len(data) - len(rest)) + rest
+    return Case('lists of %d bytes' % size, data, (1 if size > 65536 else 0,))
+
+
+def sheet_table_size(rng, size=None):
+    size = size or rng.choice((32767, 32768, 32769))
+    table = byte_size_table(rng, size)
+    return Case('table of %d bytes with lists' % size, table.bytes() + with_events(table, 2) + with_events(table, 1), (1 if size > 32768 else 0,))
+
+
+def sheet_long_table_part(rng):
+    """A table part over its own limit; with its lists the input keeps to 65,536 bytes."""
+    table = small_table(rng)
+    data = table.bytes() + b'x' * 40000 + b'\n'
+    return Case('long table and lists', data + with_events(table, 2) + with_events(table, 0), (1,), place=0)
+
+
+def sheet_empty_lists(rng, lists=None):
+    """The shortest head and so many empty lists: 9,361 of them and one event are 65,536 bytes."""
+    lists = lists or rng.choice((500, 1000, 4096))
+    data = b'dims\tA\n' + b'events\n' * lists + b'0\n'
+    return Case('%d lists' % lists, data, (1 if len(data) > 65536 else 0,))
+
+
+def sheet_widest(rng, size=65536):
+    """64 regions and as many lists as fit: the longest output."""
+    table = Table(rng, n=1, span=(0, 9))
+    table.dimensions = [b'A']
+    names = list(LETTERS[:52]) + ['A%d' % k for k in range(10)] + ['B0', 'B1']
+    table.name = lambda: names.pop(0).encode()
+    table.rect()
+    while len(table.regions) < 64:
+        table.combination(b'not', 1)
+    data = table.mix().bytes()
+    while size - len(data) >= 9:
+        data += b'events\n' + rng.choice((b'', b'', b'%d\n' % rng.randint(0, 9)))
+    return Case('64 regions, many lists', data, (0,))
+
+
+def sheet_fullest(rng, lists=3):
+    """As many events as fit, in a few lists."""
+    table = Table(rng, n=1, span=(0, 9))
+    table.dimensions = [b'A']
+    table.rect()
+    table.rect().fields[2] = table.regions[0]
+    data = table.bytes()
+    for left in range(lists, 0, -1):
+        count = (65536 - len(data) - 7 * left) // (2 * left)
+        data += b'events\n' + b''.join([b'%d\n' % rng.randint(0, 9) for _ in range(count)])
+    return Case('most events', data, (0,))
+
+
+SHEETS = ((140, sheet_few), (160, sheet_kin), (70, sheet_empty), (12, sheet_many_lists), (25, sheet_long_lists), (40, sheet_far), (110, sheet_bad_lines),
+          (30, sheet_late_bad_line), (12, sheet_broken), (30, sheet_open), (60, sheet_forms), (150, sheet_of_case), (60, sheet_table_first), (30, sheet_rough),
+          (40, sheet_rough_lists), (5, sheet_size), (2, sheet_table_size), (2, sheet_long_table_part), (2, sheet_empty_lists))
+
+# The forms of lists, one of each refusal and the limits of size stand at the beginning.
+FIRST_SHEETS = ([lambda rng, style=style: sheet_forms(rng, style) for style in (*range(9), 8, 8, 8)]
+                + [lambda rng, style=style, changed=changed: sheet_forms(rng, style, changed) for style in (2, 3) for changed in CHANGED_EVENTS]
+                + [lambda rng, style=style: sheet_open(rng, style) for style in range(3)]
+                + [lambda rng, style=style: sheet_broken(rng, style) for style in (0, 1, 1, 2, 2)]
+                + [sheet_kin] * 10 + [sheet_empty] * 6 + [sheet_bad_lines] * 6 + [sheet_late_bad_line] * 2
+                + [lambda rng, lists=lists: sheet_many_lists(rng, lists) for lists in (63, 64, 65, 128, 256, 257)]
+                + [lambda rng, number=number: sheet_of_case(rng, case_one_fault(rng, number)) for number in range(4, 13)]
+                + [lambda rng, number=number: sheet_table_first(rng, case_one_fault(rng, number)) for number in range(4, 13)]
+                + [lambda rng, maker=maker: sheet_of_case(rng, maker(rng)) for maker in (
+                    case_crowded, case_crowded_then_bad, case_full, case_twin, case_dead, case_circle, case_open_table, case_head, case_long_table_part)]
+                + [lambda rng, words=words: sheet_of_case(rng, case_plan_size(rng, words)) for words in (4096, 4097)]
+                + [lambda rng, size=size: sheet_size(rng, size) for size in (32768, 32769, 65535, 65536, 65537)]
+                + [lambda rng, size=size: sheet_table_size(rng, size) for size in (32767, 32768, 32769)] + [sheet_long_table_part]
+                + [lambda rng, lists=lists: sheet_empty_lists(rng, lists) for lists in (1000, 9361, 9362)]
+                + [sheet_widest, sheet_fullest, lambda rng: sheet_fullest(rng, 1)])
+_SHEET_WEIGHTS = [weight for weight, _ in SHEETS]
+_SHEET_MAKERS = [maker for _, maker in SHEETS]
+
+
+def sheet(seed, number):
+    """The standard input of `gatesheet` with this number of the run with this seed."""
+    rng = random.Random('%s sheet %d' % (seed, number))
+    if number < len(FIRST_SHEETS):
+        return FIRST_SHEETS[number](rng)
+    return rng.choices(_SHEET_MAKERS, _SHEET_WEIGHTS)[0](rng)
 
 
 # ---------------------------------------------------------------- plans

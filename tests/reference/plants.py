@@ -6,6 +6,7 @@ as long as its block lasts; the generator isn't touched by any.
 
 import contextlib
 import itertools
+import math
 import re
 from fractions import Fraction
 
@@ -1545,6 +1546,459 @@ PLANTS = {
     'ellip3-rim-without-third-step': ellipsoid_rim(third_step_left_out),
     'ellip3-sets-no-outline': {'on_outline': lambda kind, body, event: kind != gates.ELLIPSOID and _ORIGINAL['on_outline'](kind, body, event)},
 }
+
+
+# ---------------------------------------------------------------- sheets of several lists
+
+def rows_changed(change):
+    """Other rows: by those of a sheet (the regions', taken, spoilt, events) and the number of lists."""
+    def faulty(names, parents, tallies, events):
+        return change(_ORIGINAL['sheet_rows'](names, parents, tallies, events), len(tallies))
+    return {'sheet_rows': faulty}
+
+
+def columns_changed(change):
+    """Other columns of each row but the last; the numbers behind them stay."""
+    return rows_changed(lambda rows, lists: [row[:1] + change(row[1:1 + lists]) + row[1 + lists:] for row in rows[:-1]] + rows[-1:])
+
+
+def sum_changed(change):
+    """Another sum in each row but the last, by its columns."""
+    return rows_changed(lambda rows, lists: [row[:1 + lists] + [change(row[1:1 + lists])] + row[2 + lists:] for row in rows[:-1]] + rows[-1:])
+
+
+def shares_changed(change):
+    """Other numbers behind a region's sum: by its row, its parent's (that of the taken without one) and the number of lists."""
+    def faulty(names, parents, tallies, events):
+        rows = _ORIGINAL['sheet_rows'](names, parents, tallies, events)
+        by_name = dict(zip(names, rows))
+        return [row[:2 + len(tallies)] + change(row, rows[-3] if parent == b'-' else by_name[parent], len(tallies))
+                for row, parent in zip(rows, parents)] + rows[-3:]
+    return {'sheet_rows': faulty}
+
+
+def tallies_changed(change):
+    """Other tallies, from which all of a sheet but the last line is made."""
+    return {'sheet_rows': lambda names, parents, tallies, events: _ORIGINAL['sheet_rows'](names, parents, change(tallies), events)}
+
+
+def total_changed(change):
+    """Another number in the last line: by the rows and the number of lists."""
+    return rows_changed(lambda rows, lists: rows[:-1] + [[b'events', change(rows, lists)]])
+
+
+def added(tallies):
+    """One tally of several."""
+    return (sum(taken for taken, _, _ in tallies), sum(spoilt for _, spoilt, _ in tallies),
+            [sum(counts) for counts in zip(*[counts for _, _, counts in tallies])] if tallies else [0] * gates.REGIONS)
+
+
+def without_parent(change):
+    """Another row of each region without a parent: by its row and the number of events."""
+    def faulty(names, parents, tallies, events):
+        rows = _ORIGINAL['sheet_rows'](names, parents, tallies, events)
+        return [change(row, events) if parent == b'-' else row for row, parent in zip(rows, parents)] + rows[-3:]
+    return {'sheet_rows': faulty}
+
+
+def other_parents(parent_of):
+    """Another parent of each region: by its gate and all gates of the table."""
+    def faulty(table):
+        table_gates = gates.read_table(table)[3]
+        return [parent_of(gate, table_gates) for gate in table_gates for _ in gate.regions()]
+    return {'region_parents': faulty}
+
+
+def gate_of(name, table_gates):
+    return next(gate for gate in table_gates if name in gate.regions())
+
+
+def root_parent(gate, table_gates):
+    parent = gate.parent
+    while parent != b'-' and gate_of(parent, table_gates).parent != b'-':
+        parent = gate_of(parent, table_gates).parent
+    return parent
+
+
+def parents_above_only(gate, table_gates):
+    above = [name for other in table_gates[:table_gates.index(gate)] for name in other.regions()]
+    return gate.parent if gate.parent in above else b'-'
+
+
+def operand_for_parent(gate, table_gates):
+    return gates.operand_name(gate.operands[0]) if gate.operands and gate.parent == b'-' else gate.parent
+
+
+def parents_by_gate(table):
+    """The gates' parents in their order, though a quadrant gate has several regions."""
+    parents = _ORIGINAL['region_parents'](table)
+    return ([gate.parent for gate in gates.read_table(table)[3]] + parents)[:len(parents)]
+
+
+def parent_by_step(table):
+    """The plan's step with the parent's number taken for the parent."""
+    head, table_gates = gates.read_table(table)[2:]
+    numbers, steps = gates.region_steps(head, table_gates)
+    order, names = gates.writing_order(numbers, steps), list(numbers)
+    return [parent if parent == b'-' else names[order[numbers[parent]]] for _, parent, _, _ in steps]
+
+
+def in_step_order(names, parents, tallies, events):
+    """The regions' lines with parents before their children."""
+    rows = _ORIGINAL['sheet_rows'](names, parents, tallies, events)
+    depth = {b'-': 0}
+    while len(depth) <= len(names):
+        depth.update({name: depth[parent] + 1 for name, parent in zip(names, parents) if parent in depth})
+    return sorted(rows[:-3], key=lambda row: depth[row[0]]) + rows[-3:]
+
+
+def reduced(count, whole):
+    divisor = math.gcd(count, whole) or 1
+    return [count // divisor, whole // divisor]
+
+
+def per_list(row, whole, lists):
+    return [number for pair in zip(row[1:2 + lists], whole[1:2 + lists]) for number in pair]
+
+
+def is_refusal(output):
+    """A sheet has three lines at least."""
+    return output.count(b'\n') == 1
+
+
+def printed_otherwise(change):
+    """An accepted input's sheet written otherwise: by its text and the input."""
+    def faulty(data):
+        output = _ORIGINAL['gatesheet'](data)
+        return output if is_refusal(output) else change(output, data)
+    return {'gatesheet': faulty}
+
+
+def values_for_events(output, data):
+    """The last line counts values, not events."""
+    *before, events = output[:-1].split(b'\t')
+    return b'\t'.join(before + [b'%d\n' % (int(events) * data.split(b'\n')[0].count(b'\t'))])
+
+
+def spaces_before_shares(output, data):
+    lines = output.split(b'\n')
+    return b'\n'.join([b' '.join(line.rsplit(b'\t', 2)) for line in lines[:-4]] + lines[-4:])
+
+
+def empty_line_before_taken(output, data):
+    lines = output.split(b'\n')
+    return b'\n'.join(lines[:-4] + [b''] + lines[-4:])
+
+
+def parted(change):
+    """Lists parted otherwise, by those that are there."""
+    def faulty(data):
+        table, lists = _ORIGINAL['part_lists'](data)
+        return table, change(lists)
+    return {'part_lists': faulty}
+
+
+def one_list(lists):
+    """The first line `events` only, which opens a list of all lines; the others are passed over."""
+    lines = [line for _, _, lines in lists for line in lines]
+    return [(lists[0][0], all(closed for _, closed, _ in lists), lines)] if lists else []
+
+
+def gatecounts_list(lists):
+    """A second `events` is a bad line, as it is for `gatecount`."""
+    return lists[:1] if len(lists) < 2 else [(lists[0][0], lists[0][1], lists[0][2] + [b'events\n'])]
+
+
+def other_events_line(forms):
+    """Lines behind the first `events` that open a list too."""
+    def faulty(data):
+        table, lists = _ORIGINAL['part_lists'](data)
+        found = []
+        for events_line, closed, lines in lists:
+            found.append((events_line, closed, []))
+            for number, line in enumerate(lines, events_line + 1):
+                if line in forms:
+                    found.append((number, True, []))
+                else:
+                    found[-1][2].append(line)
+        return table, found
+    return {'part_lists': faulty}
+
+
+def bad_lines_of(lists, n):
+    """For each list its bad lines."""
+    return [[events_line] * (not closed) + [number for number, line in enumerate(lines, events_line + 1) if gates.event_values(line, n) is None]
+            for events_line, closed, lines in lists]
+
+
+def other_bad_line(choose):
+    """Another line told of where there are several lists: by the lists and the bad lines of each."""
+    def faulty(lists, n):
+        place, values = _ORIGINAL['read_lists'](lists, n)
+        return (place, values) if place is None or len(lists) < 2 else (choose(lists, bad_lines_of(lists, n)), None)
+    return {'read_lists': faulty}
+
+
+def list_with(lists, found):
+    """The number, from 0, of the first list with a bad line."""
+    return next(at for at, bad in enumerate(found) if bad)
+
+
+def in_its_list(lists, found):
+    at = list_with(lists, found)
+    return found[at][0] - lists[at][0]
+
+
+def without_events_lines(lists, found):
+    at = list_with(lists, found)
+    return found[at][0] - at
+
+
+def read_otherwise(change):
+    """The lists from the second on changed before they are read."""
+    return {'read_lists': lambda lists, n: _ORIGINAL['read_lists'](lists[:1] + [change(each, n) for each in lists[1:]], n)}
+
+
+def bad_lines_passed_over(one, n):
+    events_line, closed, lines = one
+    return events_line, closed, [line for line in lines if gates.event_values(line, n) is not None]
+
+
+def bad_lines_spoilt(one, n):
+    events_line, closed, lines = one
+    return events_line, closed, [line if gates.event_values(line, n) is not None else b'\t'.join([b'70000'] * n) + b'\n' for line in lines]
+
+
+def closed_by_itself(one, n):
+    events_line, closed, lines = one
+    return events_line, closed, [line if line[-1:] == b'\n' else line + b'\n' for line in lines]
+
+
+def far_in_later_lists(one, n):
+    events_line, closed, lines = one
+    return events_line, closed, [b'x\n' if any(abs(value) > 2 ** 31 for value in gates.event_values(line, n) or []) else line for line in lines]
+
+
+def read_by_values(lists, n):
+    """A list asked for the number of its values only, not line by line."""
+    place, values = _ORIGINAL['read_lists'](lists, n)
+    if place is None or len(lists) < 2 or not all(closed for _, closed, _ in lists):
+        return place, values
+    read = []
+    for _, _, lines in lists:
+        fields = [field for line in lines for field in line[:-1].split(b'\t')]
+        if not all(line[-1:] == b'\n' for line in lines) or not all(gates.is_number(field) for field in fields) or len(fields) % n:
+            return place, None
+        read.append([gates.number_value(field) for field in fields])
+    return None, read
+
+
+def lists_rearranged(change):
+    """The values of the lists put otherwise before they are counted: by all of them and the dimensions."""
+    def faulty(lists, n):
+        place, values = _ORIGINAL['read_lists'](lists, n)
+        return place, values if place is not None or len(lists) < 2 else change(values, n)
+    return {'read_lists': faulty}
+
+
+def rest_of_64_to_the_next(values, n):
+    """What is over after groups of 64 events goes to the next list."""
+    moved, carried = [], []
+    for at, each in enumerate(values):
+        each = carried + each
+        whole = len(each) if at == len(values) - 1 else len(each) // (64 * n) * (64 * n)
+        moved.append(each[:whole])
+        carried = each[whole:]
+    return moved
+
+
+def lists_first(data):
+    """A bad line of a list told of before the table's own refusals."""
+    table, lists = gates.part_lists(data)
+    head = gates.read_head(table.split(b'\n')[0])
+    if len(data) <= gates.INPUT_BYTES and head and lists:
+        place = gates.read_lists(lists, len(head))[0]
+        if place is not None:
+            return gates.refused(23, place)
+    return _ORIGINAL['gatesheet'](data)
+
+
+def limited(good):
+    """Another limit of the whole input; the limit of `gatecount` is left."""
+    def faulty(data):
+        if not good(data):
+            return gates.refused(1, 0)
+        limit, gates.INPUT_BYTES = gates.INPUT_BYTES, len(data)
+        try:
+            return _ORIGINAL['gatesheet'](data)
+        finally:
+            gates.INPUT_BYTES = limit
+    return {'gatesheet': faulty}
+
+
+def long_table_taken(data):
+    """The limit of the table not kept where lists follow."""
+    limit, gates.TABLE_BYTES = gates.TABLE_BYTES, gates.INPUT_BYTES if gates.part_lists(data)[1] else gates.TABLE_BYTES
+    try:
+        return _ORIGINAL['gatesheet'](data)
+    finally:
+        gates.TABLE_BYTES = limit
+
+
+def refused_where(bad_place):
+    """23 where nothing is wrong: by the input and its lists, None to leave it."""
+    def change(output, data):
+        place = bad_place(data, gates.part_lists(data)[1])
+        return output if place is None else gates.refused(23, place)
+    return printed_otherwise(change)
+
+
+SHEET_PLANTS = {
+    # Columns.
+    'sheet-columns-reversed': columns_changed(lambda columns: columns[::-1]),
+    'sheet-first-columns-exchanged': columns_changed(lambda columns: columns[1::-1] + columns[2:]),
+    'sheet-last-columns-exchanged': columns_changed(lambda columns: columns[:-2] + columns[-2:][::-1]),
+    'sheet-counts-one-column-late': rows_changed(lambda rows, lists: [
+        row[:1] + row[1:1 + lists][-1:] + row[1:1 + lists][:-1] + row[1 + lists:] for row in rows[:-3]] + rows[-3:]),
+    'sheet-spoilt-one-column-late': rows_changed(lambda rows, lists: rows[:-2] + [
+        rows[-2][:1] + rows[-2][1:1 + lists][-1:] + rows[-2][1:1 + lists][:-1] + rows[-2][1 + lists:]] + rows[-1:]),
+    'sheet-columns-added-up': columns_changed(lambda columns: list(itertools.accumulate(columns))),
+    'sheet-tallies-not-begun-anew': tallies_changed(lambda tallies: [added(tallies[:at + 1]) for at in range(len(tallies))]),
+    'sheet-spoilt-not-begun-anew': rows_changed(lambda rows, lists: rows[:-2] + [
+        rows[-2][:1] + list(itertools.accumulate(rows[-2][1:1 + lists])) + rows[-2][1 + lists:]] + rows[-1:]),
+    'sheet-first-list-lost': parted(lambda lists: lists[1:]),
+    'sheet-last-list-lost': parted(lambda lists: lists[:-1]),
+    'sheet-first-column-lost': columns_changed(lambda columns: columns[1:]),
+    'sheet-last-column-lost': columns_changed(lambda columns: columns[:-1]),
+    'sheet-empty-list-without-column': parted(lambda lists: [each for each in lists if each[2] or not each[1]]),
+    'sheet-empty-last-list-without-column': parted(lambda lists: lists[:-1] if lists and lists[-1][1] and not lists[-1][2] else lists),
+    'sheet-empty-first-list-without-column': parted(lambda lists: lists[1:] if lists and lists[0][1] and not lists[0][2] else lists),
+    'sheet-empty-list-as-the-one-before': columns_changed(lambda columns: [
+        number or columns[at - 1] if at else number for at, number in enumerate(columns)]),
+    'sheet-no-list-with-a-column': tallies_changed(lambda tallies: tallies or [added([])]),
+    'sheet-no-list-without-sum': rows_changed(lambda rows, lists: [row if lists else row[:1] for row in rows]),
+    'sheet-no-list-without-share': rows_changed(lambda rows, lists: [row if lists else row[:2] for row in rows]),
+    'sheet-one-list-joined': parted(one_list),
+    'sheet-8-columns-only': tallies_changed(lambda tallies: tallies[:8]),
+    'sheet-64-columns-only': tallies_changed(lambda tallies: tallies[:64]),
+    'sheet-255-columns-only': tallies_changed(lambda tallies: tallies[:255]),
+    'sheet-4096-columns-only': tallies_changed(lambda tallies: tallies[:4096]),
+    'sheet-9360-columns-only': tallies_changed(lambda tallies: tallies[:9360]),
+    'sheet-65th-column-added-to-the-64th': tallies_changed(lambda tallies: (
+        tallies if len(tallies) < 65 else tallies[:63] + [added(tallies[63:65])] + tallies[65:])),
+    'sheet-rest-of-64-in-the-next-list': lists_rearranged(rest_of_64_to_the_next),
+    'sheet-first-event-in-the-list-before': lists_rearranged(lambda values, n: [
+        each[n * (at > 0):] + later[:n] for at, (each, later) in enumerate(zip(values, values[1:] + [[]]))]),
+    'sheet-last-event-of-a-list-lost': lists_rearranged(lambda values, n: [each[:-n] for each in values[:-1]] + values[-1:]),
+    # Sums.
+    'sheet-sum-of-first-list': sum_changed(lambda columns: columns[0] if columns else 0),
+    'sheet-sum-of-last-list': sum_changed(lambda columns: columns[-1] if columns else 0),
+    'sheet-sum-without-first-list': sum_changed(lambda columns: sum(columns[1:])),
+    'sheet-sum-without-last-list': sum_changed(lambda columns: sum(columns[:-1])),
+    'sheet-sum-in-8-bits': sum_changed(lambda columns: sum(columns) % 256),
+    'sheet-sum-in-14-bits': sum_changed(lambda columns: sum(columns) % 2 ** 14),
+    'sheet-sum-before-columns': rows_changed(lambda rows, lists: [
+        row[:1] + [row[1 + lists]] + row[1:1 + lists] + row[2 + lists:] for row in rows[:-1]] + rows[-1:]),
+    'sheet-sum-left-out': rows_changed(lambda rows, lists: [row[:1 + lists] + row[2 + lists:] for row in rows[:-1]] + rows[-1:]),
+    'sheet-one-list-without-sum': rows_changed(lambda rows, lists: [row[:2] + row[3:] if lists == 1 else row for row in rows[:-1]] + rows[-1:]),
+    'sheet-sum-of-taken-with-spoilt': rows_changed(lambda rows, lists: rows[:-3] + [rows[-3][:-1] + [rows[-1][1]]] + rows[-2:]),
+    'sheet-sum-of-spoilt-left-out': rows_changed(lambda rows, lists: rows[:-2] + [rows[-2][:-1]] + rows[-1:]),
+    # Shares.
+    'sheet-share-left-out': shares_changed(lambda row, whole, lists: []),
+    'sheet-share-without-count': shares_changed(lambda row, whole, lists: [whole[1 + lists]]),
+    'sheet-share-without-parent': shares_changed(lambda row, whole, lists: [row[1 + lists]]),
+    'sheet-share-exchanged': shares_changed(lambda row, whole, lists: [whole[1 + lists], row[1 + lists]]),
+    'sheet-share-before-sum': rows_changed(lambda rows, lists: [row[:1 + lists] + row[2 + lists:] + [row[1 + lists]] for row in rows[:-3]] + rows[-3:]),
+    'sheet-share-reduced': shares_changed(lambda row, whole, lists: reduced(row[1 + lists], whole[1 + lists])),
+    'sheet-share-in-percent': shares_changed(lambda row, whole, lists: [100 * row[1 + lists] // (whole[1 + lists] or 1)]),
+    'sheet-share-of-first-list': shares_changed(lambda row, whole, lists: [row[1], whole[1]]),
+    'sheet-share-of-last-list': shares_changed(lambda row, whole, lists: [row[max(lists, 1)], whole[max(lists, 1)]]),
+    'sheet-share-count-of-last-list': shares_changed(lambda row, whole, lists: [row[max(lists, 1)], whole[1 + lists]]),
+    'sheet-share-parent-of-last-list': shares_changed(lambda row, whole, lists: [row[1 + lists], whole[max(lists, 1)]]),
+    'sheet-share-for-each-list': shares_changed(per_list),
+    'sheet-share-of-all-events': without_parent(lambda row, events: row[:-1] + [events]),
+    'sheet-share-of-itself-without-parent': without_parent(lambda row, events: row[:-1] + [row[-2]]),
+    'sheet-share-0-without-parent': without_parent(lambda row, events: row[:-1] + [0]),
+    'sheet-no-share-without-parent': without_parent(lambda row, events: row[:-2]),
+    'sheet-share-of-taken-always': {'region_parents': lambda table: [b'-' for _ in _ORIGINAL['region_parents'](table)]},
+    'sheet-share-of-the-root': other_parents(root_parent),
+    'sheet-share-of-parents-above-only': other_parents(parents_above_only),
+    'sheet-share-of-an-operand': other_parents(operand_for_parent),
+    'sheet-share-by-step': {'region_parents': parent_by_step},
+    'sheet-quadrant-without-parent': other_parents(lambda gate, table_gates: b'-' if gate.kind == b'quad' else gate.parent),
+    'sheet-quadrant-share-of-first-quadrant': other_parents(lambda gate, table_gates: gate.quadrants[0][0] if gate.kind == b'quad' else gate.parent),
+    'sheet-parents-by-gate': {'region_parents': parents_by_gate},
+    'sheet-share-for-taken': rows_changed(lambda rows, lists: rows[:-3] + [rows[-3] + [rows[-3][-1], rows[-1][1]]] + rows[-2:]),
+    'sheet-share-for-spoilt': rows_changed(lambda rows, lists: rows[:-2] + [rows[-2] + [rows[-2][-1], rows[-1][1]]] + rows[-1:]),
+    # Lines.
+    'sheet-spoilt-before-taken': rows_changed(lambda rows, lists: rows[:-3] + [rows[-2], rows[-3], rows[-1]]),
+    'sheet-spoilt-left-out': rows_changed(lambda rows, lists: rows[:-2] + rows[-1:]),
+    'sheet-taken-first': rows_changed(lambda rows, lists: [rows[-3], rows[-2]] + rows[:-3] + rows[-1:]),
+    'sheet-events-first': rows_changed(lambda rows, lists: rows[-1:] + rows[:-1]),
+    'sheet-events-before-spoilt': rows_changed(lambda rows, lists: rows[:-2] + [rows[-1], rows[-2]]),
+    'sheet-events-left-out': rows_changed(lambda rows, lists: rows[:-1]),
+    'sheet-events-laid-out-alike': rows_changed(lambda rows, lists: rows[:-1] + [
+        [b'events'] + [one + other for one, other in zip(rows[-3][1:], rows[-2][1:])]]),
+    'sheet-events-twice': rows_changed(lambda rows, lists: rows[:-1] + [rows[-1] + rows[-1][1:]]),
+    'sheet-parents-first': {'sheet_rows': in_step_order},
+    'sheet-names-sorted': rows_changed(lambda rows, lists: sorted(rows[:-3], key=lambda row: row[0]) + rows[-3:]),
+    'sheet-unclaimed-printed': rows_changed(lambda rows, lists: rows[:-2] + [[b'unclaimed'] + [0] * (lists + 1)] + rows[-2:]),
+    'sheet-zero-left-blank': {'printed_line': lambda name, *numbers: b'\t'.join(
+        [name] + [b'%d' % number if number or len(numbers) < 2 else b'' for number in numbers]) + b'\n'},
+    'sheet-tab-at-the-end': printed_otherwise(lambda output, data: output.replace(b'\n', b'\t\n')),
+    'sheet-space-for-a-tab': printed_otherwise(lambda output, data: output.replace(b'\t', b' ', 1)),
+    'sheet-spaces-before-shares': printed_otherwise(spaces_before_shares),
+    'sheet-open-last-line': printed_otherwise(lambda output, data: output[:-1]),
+    'sheet-cr-at-the-end': printed_otherwise(lambda output, data: output.replace(b'\n', b'\r\n')),
+    'sheet-empty-line-before-taken': printed_otherwise(empty_line_before_taken),
+    # The total.
+    'sheet-total-of-taken': total_changed(lambda rows, lists: rows[-3][-1]),
+    'sheet-total-of-spoilt': total_changed(lambda rows, lists: rows[-2][-1]),
+    'sheet-total-of-first-list': total_changed(lambda rows, lists: rows[-3][1] + rows[-2][1]),
+    'sheet-total-of-last-list': total_changed(lambda rows, lists: rows[-3][max(lists, 1)] + rows[-2][max(lists, 1)]),
+    'sheet-total-of-lists': total_changed(lambda rows, lists: lists),
+    'sheet-total-with-events-lines': total_changed(lambda rows, lists: rows[-1][1] + lists),
+    'sheet-total-of-values': printed_otherwise(values_for_events),
+    'sheet-total-in-8-bits': total_changed(lambda rows, lists: rows[-1][1] % 256),
+    # Refusals.
+    'sheet-bad-lines-of-later-lists-passed-over': read_otherwise(bad_lines_passed_over),
+    'sheet-bad-lines-of-later-lists-spoilt': read_otherwise(bad_lines_spoilt),
+    'sheet-later-list-open': read_otherwise(closed_by_itself),
+    'sheet-later-events-open': read_otherwise(lambda one, n: (one[0], True, one[2])),
+    'sheet-open-events-lost': parted(lambda lists: lists[:-1] if len(lists) > 1 and not lists[-1][1] else lists),
+    'sheet-far-is-ragged-in-later-lists': read_otherwise(far_in_later_lists),
+    'sheet-only-first-and-last-list-read': {'read_lists': lambda lists, n: _ORIGINAL['read_lists'](
+        [each if at in (0, len(lists) - 1) else bad_lines_spoilt(each, n) for at, each in enumerate(lists)], n)},
+    'sheet-lists-read-by-values': {'read_lists': read_by_values},
+    'sheet-second-events-refused': parted(gatecounts_list),
+    'sheet-events-with-cr': other_events_line((b'events\r\n',)),
+    'sheet-events-with-tab': other_events_line((b'events\t\n',)),
+    'sheet-events-with-space': other_events_line((b' events\n', b'events \n')),
+    'sheet-events-with-capital': other_events_line((b'Events\n',)),
+    'sheet-empty-line-parts-lists': other_events_line((b'\n',)),
+    'sheet-line-in-its-list': other_bad_line(in_its_list),
+    'sheet-line-without-events-lines': other_bad_line(without_events_lines),
+    'sheet-line-one-less': other_bad_line(lambda lists, found: found[list_with(lists, found)][0] - 1),
+    'sheet-line-from-first-events': other_bad_line(lambda lists, found: found[list_with(lists, found)][0] - lists[0][0]),
+    'sheet-line-of-the-events': other_bad_line(lambda lists, found: lists[list_with(lists, found)][0]),
+    'sheet-highest-bad-line': other_bad_line(lambda lists, found: max(max(bad, default=0) for bad in found)),
+    'sheet-lowest-of-the-last-bad-list': other_bad_line(lambda lists, found: [bad for bad in found if bad][-1][0]),
+    'sheet-highest-of-the-first-bad-list': other_bad_line(lambda lists, found: found[list_with(lists, found)][-1]),
+    'sheet-lowest-within-its-list': other_bad_line(lambda lists, found: min(
+        (bad[0] - one[0], bad[0]) for one, bad in zip(lists, found) if bad)[1]),
+    'sheet-number-of-the-list': other_bad_line(lambda lists, found: list_with(lists, found) + 1),
+    'sheet-lists-before-table': {'gatesheet': lists_first},
+    'sheet-no-list-refused': refused_where(lambda data, lists: None if lists else data.count(b'\n') + 1),
+    'sheet-empty-list-refused': refused_where(lambda data, lists: next((number for number, _, lines in lists if not lines), None)),
+    'sheet-32768-bytes-in-all': limited(lambda data: len(data) <= 32768),
+    'sheet-65535-bytes-in-all': limited(lambda data: len(data) <= 65535),
+    'sheet-65537-bytes-in-all': limited(lambda data: len(data) <= 65537),
+    'sheet-no-limit-in-all': limited(lambda data: True),
+    'sheet-65536-bytes-of-lists': limited(lambda data: len(data) - len(gates.part_lists(data)[0]) <= 65536),
+    'sheet-32768-bytes-of-lists': limited(lambda data: len(data) <= 65536 and len(data) - len(gates.part_lists(data)[0]) <= 32768),
+    'sheet-long-table-taken': {'gatesheet': long_table_taken},
+}
+PLANTS.update(SHEET_PLANTS)
 
 
 @contextlib.contextmanager

@@ -4,9 +4,9 @@
     tests/reference/selftest.py [--seed S] [--tables N]
 
 First come the examples that 01 prints and small cases at each of its rules, and at those of
-02 a on outlines, 02 b on decimals and 02 d on ellipsoids; then, for random tables, the plan against
-the lines, other orders of lines, sums of quadrants, and other ways of reckoning the same thing.  The
-last line is "N passed, M failed".
+02 a on outlines, 02 b on decimals, 02 d on ellipsoids and 02 e on sheets; then, for random tables, the
+plan against the lines, other orders of lines, sums of quadrants, sheets against counts, and other ways
+of reckoning the same thing.  The last line is "N passed, M failed".
 """
 
 import argparse
@@ -55,6 +55,10 @@ def accepted(label, table, words=None):
 
 def prints(label, data, *lines):
     check(label, gates.gatecount(data), tabs(*lines))
+
+
+def sheets(label, data, *lines):
+    check('sheet: ' + label, gates.gatesheet(data), tabs(*lines))
 
 
 def line_fault(label, line, number, head='dims A B', before=()):
@@ -1021,6 +1025,142 @@ def program():
     prints('long plan before a bad list', long_plan + tabs('events', 'x'), 'refused 17 0')
 
 
+# ---------------------------------------------------------------- 02 e: gatesheet
+
+def several_lists():
+    head = tabs('dims A')
+    one = tabs('dims A', 'rect X - A 0 10')
+    table = tabs('dims A', 'rect X - A 0 10', 'rect Y X A 5 20')
+    two = tabs('dims A B')
+
+    # A line per region: name, each list, the sum, then the count again and the parent's or the taken (e1); taken, spoilt, events (e2, e6).
+    example, first, third = tabs(*EXAMPLE), ('600 200', '400 375'), ('599 200', '400 376', '350 200', '70000 0')
+    sheets('01\'s example in three lists', example + tabs('events', *first, 'events', 'events', *third),
+           'Live 1 0 2 3 3 4', 'Ring 2 0 2 4 4 5', 'Lo 0 0 1 1 1 4', 'Hi 2 0 1 3 3 4', 'Both 0 0 1 1 1 5', 'taken 2 0 3 5', 'spoilt 0 0 1 1', 'events 6')
+    sheets('01\'s example in one list', example + tabs('events', *first, *third),
+           'Live 3 3 3 4', 'Ring 4 4 4 5', 'Lo 1 1 1 4', 'Hi 3 3 3 4', 'Both 1 1 1 5', 'taken 5 5', 'spoilt 1 1', 'events 6')
+    sheets('01\'s example, the lists exchanged', example + tabs('events', *third, 'events', *first),
+           'Live 2 1 3 3 4', 'Ring 2 2 4 4 5', 'Lo 1 0 1 1 4', 'Hi 1 2 3 3 4', 'Both 1 0 1 1 5', 'taken 3 2 5', 'spoilt 1 0 1', 'events 6')
+    sheets('01\'s example without a list', example, 'Live 0 0 0', 'Ring 0 0 0', 'Lo 0 0 0', 'Hi 0 0 0', 'Both 0 0 0', 'taken 0', 'spoilt 0', 'events 0')
+    sheets('two lists', table + tabs('events', '1', '7', 'events', '7', '30', '70000'),
+           'X 2 1 3 3 4', 'Y 1 1 2 2 3', 'taken 2 2 4', 'spoilt 0 1 1', 'events 5')
+    sheets('the parent below', tabs('dims A', 'rect Y X A 5 20', 'rect X - A 0 10', 'events', '1', '7', 'events', '7', '30', '70000'),
+           'Y 1 1 2 2 3', 'X 2 1 3 3 4', 'taken 2 2 4', 'spoilt 0 1 1', 'events 5')
+    sheets('a share of the parent, not of its parent', table + tabs('rect Z Y A 6 9', 'events', '1', '5', '6', 'events', '8', '9', '30', 'events', '0'),
+           'X 3 2 1 6 6 7', 'Y 2 2 0 4 4 6', 'Z 1 1 0 2 2 4', 'taken 3 3 1 7', 'spoilt 0 0 0 0', 'events 7')
+    sheets('never divided', table + tabs('events', '1', '7', 'events', '2', '8'), 'X 2 2 4 4 4', 'Y 1 1 2 2 4', 'taken 2 2 4', 'spoilt 0 0 0', 'events 4')
+    sheets('a parent without members', table + tabs('events', '30', 'events', '40', '-1'),
+           'X 0 0 0 0 3', 'Y 0 0 0 0 0', 'taken 1 2 3', 'spoilt 0 0 0', 'events 3')
+    sheets('operands are no parents', table + tabs('not N - X', 'not M X Y', 'and B - X Y', 'or O X Y Y', 'events', '1', '30', 'events', '7', '70000'),
+           'X 1 1 2 2 3', 'Y 0 1 1 1 2', 'N 1 0 1 1 3', 'M 1 0 1 1 2', 'B 0 1 1 1 3', 'O 0 1 1 1 2', 'taken 2 1 3', 'spoilt 0 1 1', 'events 4')
+    sheets('names that are no words', tabs('dims events', 'rect taken - events 0 5', 'rect events taken events 1 9', 'rect spoilt - events * *', 'events', '1',
+                                          'events', '7'),
+           'taken 1 0 1 1 2', 'events 1 0 1 1 1', 'spoilt 1 1 2 2 2', 'taken 1 1 2', 'spoilt 0 0 0', 'events 2')
+    sheets('a region called refused', tabs('dims A', 'rect refused - A 0 5', 'events', '1'), 'refused 1 1 1 1', 'taken 1 1', 'spoilt 0 0', 'events 1')
+
+    # The parent of a quadrant is its gate's (e5).
+    sheets('quadrants', tabs('dims A B', 'rect P - A 0 10', 'quad Q P 1 B 1 5 Lo 0 Hi 9', 'quad R - 1 A 1 5 Left 0 Right 5', 'quad S Lo 1 A 1 3 Sl 0 Sr 3',
+                             'rect T Hi A 9 10', 'events', '1 1', '6 9', 'events', '20 1', '4 4', '9 5'),
+           'P 2 2 4 4 5', 'Lo 1 1 2 2 4', 'Hi 1 1 2 2 4', 'Left 1 1 2 2 5', 'Right 1 2 3 3 5', 'Sl 1 0 1 1 2', 'Sr 0 1 1 1 2', 'T 0 1 1 1 2',
+           'taken 2 3 5', 'spoilt 0 0 0', 'events 5')
+
+    # No line `events`, no list (e3); an empty list has its column (e4).
+    sheets('no list', table, 'X 0 0 0', 'Y 0 0 0', 'taken 0', 'spoilt 0', 'events 0')
+    sheets('no list, a head alone', head, 'taken 0', 'spoilt 0', 'events 0')
+    sheets('no list, no last LF', table[:-1], 'refused 2 0')
+    sheets('no list, over 32,768', table + b'rect\tZ\t-\tA\t0\t' + b'1' * 40000 + b'\n', 'refused 1 0')
+    sheets('an empty list', table + tabs('events'), 'X 0 0 0 0', 'Y 0 0 0 0', 'taken 0 0', 'spoilt 0 0', 'events 0')
+    sheets('two empty lists, a head alone', head + tabs('events', 'events'), 'taken 0 0 0', 'spoilt 0 0 0', 'events 0')
+    sheets('the first empty', table + tabs('events', 'events', '7'), 'X 0 1 1 1 1', 'Y 0 1 1 1 1', 'taken 0 1 1', 'spoilt 0 0 0', 'events 1')
+    sheets('the last empty', table + tabs('events', '7', 'events'), 'X 1 0 1 1 1', 'Y 1 0 1 1 1', 'taken 1 0 1', 'spoilt 0 0 0', 'events 1')
+    sheets('some empty', one + tabs('events', 'events', '1', 'events', 'events', '2', '11', 'events'), 'X 0 1 0 1 0 2 2 3', 'taken 0 1 0 2 0 3',
+           'spoilt 0 0 0 0 0 0', 'events 3')
+    for lists in (1000, 9361):
+        nothing = ' 0' * (lists + 1)
+        sheets('%d empty lists' % lists, head + b'events\n' * lists, 'taken' + nothing, 'spoilt' + nothing, 'events 0')
+    longest = head + b'events\n' * 9361
+    check('9,361 empty lists below the shortest head', (len(longest), len(longest + b'events\n') > 65536), (65534, True))
+    sheets('9,361 lists and an event', longest + b'0\n', 'taken' + ' 0' * 9360 + ' 1 1', 'spoilt' + ' 0' * 9362, 'events 1')
+    sheets('9,361 lists and a line without LF', longest + b'0', 'refused 23 9363')
+    sheets('9,361 lists and an empty line', longest + b'\n', 'refused 23 9363')
+    sheets('9,361 lists and a longer event', longest + b'10\n', 'refused 1 0')
+    sheets('9,362 lists', longest + b'events\n', 'refused 1 0')
+
+    # Spoilt events; the last line has them too.
+    sheets('spoilt in the second list', one + tabs('events', '5', 'events', '65536', '-65537', FORTY, '4294967296', '65535', '-65536'),
+           'X 1 0 1 1 3', 'taken 1 2 3', 'spoilt 0 4 4', 'events 7')
+    sheets('all spoilt', one + tabs('events', FORTY, 'events', '-' + FORTY), 'X 0 0 0 0 0', 'taken 0 0 0', 'spoilt 1 1 2', 'events 2')
+    sheets('one value spoils an event', tabs('dims A B', 'rect X - A 0 10', 'events', '1 70000', '1 1', 'events', '70000 70000'),
+           'X 1 0 1 1 1', 'taken 1 0 1', 'spoilt 1 1 2', 'events 3')
+    sheets('events, not values', tabs('dims A B C', 'events', '1 2 3', 'events', '4 5 6', '7 8 9'), 'taken 1 2 3', 'spoilt 0 0 0', 'events 3')
+
+    # 23: the lowest bad line over all lists, counted over the whole input (e8).
+    sheets('bad line in the second list', table + tabs('events', '1', 'events', '2', 'x'), 'refused 23 8')
+    sheets('bad lines in the first list and the third', table + tabs('events', '1', 'x', 'events', '2', 'events', 'y'), 'refused 23 6')
+    sheets('bad lines in the second list and the third', table + tabs('events', '1', 'events', '2', '3', '', 'events', 'y'), 'refused 23 9')
+    sheets('the second list bad behind an empty one', table + tabs('events', 'events', 'x'), 'refused 23 6')
+    sheets('too few in the second list', two + tabs('events', '1 2', 'events', '3'), 'refused 23 5')
+    sheets('too many in the second list', two + tabs('events', '1 2', 'events', '3 4 5'), 'refused 23 5')
+    sheets('an event in two lists', two + tabs('events', '1 2', '3', 'events', '4'), 'refused 23 4')
+    sheets('an event on two lines of the second list', two + tabs('events', 'events', '3', '4'), 'refused 23 4')
+    sheets('two events on a line', two + tabs('events', '1 2', 'events', '1 2 3 4'), 'refused 23 5')
+    sheets('an empty line between the lists', one + tabs('events', '1', '', 'events', '2'), 'refused 23 5')
+    sheets('an empty line at the end', one + tabs('events', '1', 'events', ''), 'refused 23 6')
+    sheets('a table line in a list', one + tabs('events', '1', 'dims A', 'events', '2'), 'refused 23 5')
+    sheets('spoilt before bad', one + tabs('events', FORTY, 'events', '1.5'), 'refused 23 6')
+    sheets('second list without LF', one + tabs('events', '1', 'events') + b'2', 'refused 23 6')
+    sheets('second list without LF, the first bad', one + tabs('events', 'x', 'events') + b'2', 'refused 23 4')
+    sheets('first events without LF', one + b'events', 'refused 23 3')
+    sheets('second events without LF', one + tabs('events', '1') + b'events', 'refused 23 5')
+    sheets('second events without LF behind an empty list', one + tabs('events') + b'events', 'refused 23 4')
+    sheets('second events without LF, the first list bad', one + tabs('events', 'x') + b'events', 'refused 23 4')
+    for line in (b'events\r', b'events\t', b' events', b'Events', b'events '):
+        sheets('%r before the lists' % line, one + line + b'\n5\nevents\n', 'refused 4 3')
+        sheets('%r behind a list' % line, one + b'events\n5\n' + line + b'\n5\nevents\n', 'refused 23 5')
+    for field in generate.BAD_EVENTS:
+        if field != b'events':
+            check('sheet: bad number %r' % field, gates.gatesheet(one + b'events\n5\nevents\n' + field + b'\n'), tabs('refused 23 6'))
+
+    # The table's own refusals come first, each printed as gatecount prints it.
+    bad = tabs('events', 'x', 'events') + b'y'
+    for what, given, line in (('empty', b'', 'refused 2 0'), ('head', tabs('dims'), 'refused 3 1'), ('kind', tabs('dims A', 'bogus'), 'refused 4 2'),
+                              ('shape', one + tabs('rect Y - A 0'), 'refused 5 3'), ('name', one + tabs('rect 9 - A 0 1'), 'refused 6 3'),
+                              ('number', one + tabs('rect Y - A 00 1'), 'refused 7 3'), ('scale', one + tabs('rect Y - A %s *' % FORTY), 'refused 8 3'),
+                              ('dimension', one + tabs('rect Y - B 0 1'), 'refused 9 3'), ('bounds', one + tabs('rect Y - A 1 1'), 'refused 10 3'),
+                              ('matrix', two + tabs('ellip Y - A B 0 0 4 6 9 1'), 'refused 11 2'),
+                              ('tiling', one + tabs('quad Q - 1 A 1 0 Lo -1'), 'refused 12 3'),
+                              ('crowded', head + tabs(*['rect X%d - A 0 1' % k for k in range(65)]), 'refused 13 66'),
+                              ('twin', one + tabs('rect X - A 0 10'), 'refused 14 3'),
+                              ('dead', tabs('dims A', 'not N - M'), 'refused 15 2'), ('circle', tabs('dims A', 'not N - N'), 'refused 16 2'),
+                              ('long plan', two + tabs(*['poly P%d - A B' % k + ' 1 2' * 256 for k in range(8)]), 'refused 17 0')):
+        sheets('table first: ' + what, given + bad, line)
+        check('as gatecount: ' + what, gates.gatecount(given + bad), tabs(line))
+
+    # 65,536 bytes in all, 32,768 of them of the table (e7).
+    prefix = table + tabs('events', '5', 'events')
+    for size, wanted in ((32769, None), (65536, None), (65537, tabs('refused 1 0'))):
+        data = prefix + b'9' * (size - len(prefix) - 1) + b'\n'
+        wanted = wanted or tabs('X 1 0 1 1 1', 'Y 1 0 1 1 1', 'taken 1 0 1', 'spoilt 0 1 1', 'events 2')
+        check('sheet: input of %d bytes' % size, (len(data), gates.gatesheet(data)), (size, wanted))
+    sheets('long before all', b'x' * 65537, 'refused 1 0')
+    sheets('a table part over 32,768', head + b'x' * 33000 + b'\nevents\n1\nevents\n', 'refused 1 0')
+
+    # gatecount keeps one list (e9); its numbers for one are the sheet's only column, those for the joined lists its sums.
+    prints('gatecount keeps one list', table + tabs('events', '1', '7', 'events', '7'), 'refused 23 7')
+    for what, given, lists in (('01\'s example', example, (first, (), third)), ('a head alone', two, (first, third)),
+                               ('one list', table, (('1', '7', '70000'),)), ('no event', table, ((), ())),
+                               ('three lists', table + tabs('not N Y X'), (('1', '7'), ('70000', '8', '9'), ('5',)))):
+        sheet = gates.gatesheet(given + b''.join([tabs('events', *each) for each in lists])).split(b'\n')
+        joined = gates.gatecount(given + tabs('events', *itertools.chain(*lists))).split(b'\n')
+        regions = len(sheet) - 4
+        check('joined lists: ' + what, [line.split(b'\t')[1 + len(lists)] for line in sheet[:-2]], [line.split(b'\t')[1] for line in joined[:-1]])
+        check('lines of both: ' + what, [line.split(b'\t')[0] for line in sheet[:-2]], [line.split(b'\t')[0] for line in joined[:-1]])
+        check('fields: ' + what, [line.count(b'\t') for line in sheet], [len(lists) + 3] * regions + [len(lists) + 1] * 2 + [1, 0])
+        for column, each in enumerate(lists, 1):
+            alone = gates.gatecount(given + tabs('events', *each)).split(b'\n')
+            check('list %d alone: %s' % (column, what), [line.split(b'\t')[column] for line in sheet[:-2]], [line.split(b'\t')[1] for line in alone[:-1]])
+
+
 # ---------------------------------------------------------------- random tables
 
 def winding(vertices, x, y):
@@ -1338,6 +1478,59 @@ def generated(seed, count):
     check('every refusal of the program was met', met, set(range(18)) | {23})
 
 
+def generated_sheets(seed, count):
+    """Inputs with several lists: refusals as they were made; each column is its list's count alone, the sums are that of the joined
+    lists, and shares and total follow from them."""
+    met = collections.Counter()
+    for number in range(count):
+        case = generate.sheet(seed, number)
+        what = 'sheet %d (%s)' % (number, case.label)
+        output = gates.gatesheet(case.data)
+        lines = [line.split(b'\t') for line in output.split(b'\n')]
+        refusal = int(lines[0][1]) if len(lines) == 2 else 0
+        met['refused', refusal] += 1
+        if case.refusals:
+            check(what, refusal in case.refusals and refusal, refusal)
+        if case.place is not None:
+            check(what + ', place', int(lines[0][2]), case.place)
+        table, lists = gates.part_lists(case.data)
+        if refusal:
+            if refusal != 23 or len(lists) < 2:
+                check(what + ', as gatecount', output, gates.gatecount(case.data))
+            else:
+                check(what + ', a line of a list', lists[0][0] <= int(lines[0][2]) <= lists[-1][0] + len(lists[-1][2]), True)
+            continue
+        met['lists', min(len(lists), 3)] += 1
+        met['empty list'] += any(not each for _, _, each in lists)
+        numbers = [[int(field) for field in line[1:]] for line in lines[:-1]]
+
+        def counted(*chosen):
+            some = [line for _, _, each in chosen for line in each]
+            return [int(line.split(b'\t')[1]) for line in gates.gatecount(table + b''.join([b'events\n'] * bool(chosen) + some)).split(b'\n')[:-1]]
+
+        check(what + ', sums', [row[len(lists)] for row in numbers[:-1]], counted(*lists))
+        for column in range(0, len(lists), 1 + len(lists) // 6):
+            check(what + ', list %d' % column, [row[column] for row in numbers[:-1]], counted(lists[column]))
+        head, table_gates = gates.read_table(table)[2:]
+        parents = [gate.parent for gate in table_gates for _ in gate.regions()]
+        sums = {line[0]: row[len(lists)] for line, row in zip(lines[:-4], numbers)}
+        wanted = [[row[len(lists)], sums[parent] if parent != b'-' else numbers[-3][-1]] for row, parent in zip(numbers, parents)]
+        check(what + ', shares', [row[len(lists) + 1:] for row in numbers[:-3]], wanted)
+        check(what + ', no share', [len(row) for row in numbers[-3:]], [len(lists) + 1] * 2 + [1])
+        check(what + ', total', numbers[-1], [numbers[-3][-1] + numbers[-2][-1]])
+        check(what + ', lines of the lists', numbers[-1], [sum(len(each) for _, _, each in lists)])
+        for row, parent in zip(numbers, parents):
+            met['share', 'of a parent' if parent != b'-' else 'of the taken', 'in several lists' if len(lists) > 1 and 0 < row[-2] < row[-1] else ''] += 1
+        if case.lines:
+            for other in generate.orders(random.Random('%s sheet order %d' % (seed, number)), case.lines, 2):
+                check(what + ', another order', sorted(gates.gatesheet(other + case.list).split(b'\n')), sorted(output.split(b'\n')))
+                met['order'] += 1
+    check('every refusal of the sheet was met', {number for number in range(30) if met['refused', number]}, set(range(18)) | {23})
+    for what in (('lists', 0), ('lists', 1), ('lists', 2), ('lists', 3), 'empty list', 'order', ('share', 'of a parent', 'in several lists'),
+                 ('share', 'of the taken', 'in several lists')):
+        check('sheets with %s were met' % str(what), met[what] > count // 100, True)
+
+
 def outline_bits(words, event):
     """The steps on whose shape's outline an event is, member or not, by the other ways of reckoning."""
     bits = 0
@@ -1463,10 +1656,12 @@ def main():
     ellipsoids()
     plans()
     program()
+    several_lists()
     outlines(options.seed)
     accepted_tables(options.seed, options.tables)
     circles(options.seed)
     generated(options.seed, 5 * options.tables)
+    generated_sheets(options.seed, 5 * options.tables)
     random_plans(options.seed, 5 * options.tables)
     asked(options.seed, 5 * options.tables)
     print('%d passed, %d failed' % (passed, failed))

@@ -1,8 +1,10 @@
 #!/usr/bin/env python3
-"""The reference dressed up as the two executables that tests/compare.py asks.
+"""The reference dressed up as the executables that tests/compare.py asks.
 
-    standin.py gatecount    standard input to standard output
-    standin.py plans        one answer line per question line (see tests/compare.py)
+    standin.py gatecount            standard input to standard output
+    standin.py gatesheet            likewise
+    standin.py plans                one answer line per question line (see tests/compare.py)
+    standin.py gatesheet FAULT      any of them with a fault of plants.py in it
 
 It serves to test the comparison itself: without a planted fault nothing may differ.
 """
@@ -46,14 +48,18 @@ def answer(line):
 
 
 def main():
+    if len(sys.argv) not in (2, 3) or sys.argv[1] not in ('gatecount', 'gatesheet', 'plans'):
+        sys.exit('standin.py gatecount | gatesheet | plans [FAULT]')
+    if len(sys.argv) == 3:
+        import plants       # takes a while, and is not needed otherwise
+        for attribute, faulty in plants.PLANTS[sys.argv[2]].items():
+            setattr(gates, attribute, faulty)
     data = sys.stdin.buffer.read()
-    if sys.argv[1:] == ['gatecount']:
-        sys.stdout.buffer.write(gates.gatecount(data))
-    elif sys.argv[1:] == ['plans']:
+    if sys.argv[1] == 'plans':
         for line in data.splitlines():
             print(answer(line))
     else:
-        sys.exit('standin.py gatecount | plans')
+        sys.stdout.buffer.write({'gatecount': gates.gatecount, 'gatesheet': gates.gatesheet}[sys.argv[1]](data))
 
 
 if __name__ == '__main__':
