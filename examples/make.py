@@ -8,6 +8,7 @@ The events are made up, not measured: clusters of cells and beads on a 16 bit sc
 from a fixed seed. Only random(), whole numbers and fractions are used, so every run writes the same bytes.
 `rim` has the same clusters on 256 channels, so that one unit can be seen in a picture, `clusters` on 1,024.
 `species` has two clusters of its own, which overlap in each pair of three dimensions and not in all three.
+`cruise` is an input of gatesheet, with several lists; all others are inputs of gatecount, with one.
 """
 
 import itertools
@@ -249,14 +250,48 @@ def species():
     return lines, numbers, edge
 
 
+# One for each list: the number of cells of each cluster, and events that are listed after the cells.
+
+def cruise():
+    lines = table(
+        'dims FSC RED ORANGE',
+        'rect Cells - FSC 4500 * RED 6000 *',
+        'quad Pigments Cells 2 RED 1 30000 ORANGE 1 16000 Pro 15000 2000 Syn 22000 30000 Large 40000 *',
+        'or Cyano Cells Pro Syn',
+        'rect BigSyn Syn FSC 13000 *',
+        'not Rest - Cells',
+    )
+    surface = {'debris': 2, 'prochlorococcus': 4, 'synechococcus': 3, 'picoeukaryotes': 1}
+    depth = {'debris': 1, 'prochlorococcus': 1, 'synechococcus': 2, 'picoeukaryotes': 2, 'cryptophytes': 1}
+    # Nothing passed the laser during the second list; in the third one value is off the scale.
+    return lines, [(surface, []), ({}, []), (depth, [[25100, 70000, 6100]])]
+
+
 MADE = {'quadrants': quadrants, 'polygon': polygon, 'ellipses': ellipses, 'boolean': boolean}
 
 # In channels, or with ellipsoids. Not in MADE, from which bench/ makes loads of the whole scale that each earlier counter takes.
 OTHERS = {'rim': rim, 'clusters': clusters, 'species': species}
-NAMES = [*MADE, *OTHERS]
+# With several lists.
+SHEETS = {'cruise': cruise}
+NAMES = [*MADE, *OTHERS, *SHEETS]
+
+
+def written(rows):
+    return ''.join('\t'.join(map(str, row)) + '\n' for row in rows).encode()
+
+
+def sheet_text(name):
+    rows, lists = SHEETS[name]()
+    where = columns(rows)
+    rng = random.Random('gate counter: ' + name)
+    for numbers, listed in lists:
+        rows += [['events']] + [[values[column] for column in where] for values in sample(rng, numbers)] + listed
+    return written(rows)
 
 
 def text(name):
+    if name in SHEETS:
+        return sheet_text(name)
     lines, numbers, edge = (MADE.get(name) or OTHERS[name])()
     cells = sample(random.Random('gate counter: ' + name), numbers)
     events = [[values[column] // UNITS.get(name, 1) for column in columns(lines)] for values in cells]
@@ -264,8 +299,7 @@ def text(name):
         # One cell at most in a place, and none where an event is listed: on the rim are the listed ones only.
         places = dict.fromkeys(map(tuple, events))
         events = [place for place in places if place not in edge]
-    rows = lines + [['events']] + [[str(value) for value in event] for event in events + edge]
-    return ''.join('\t'.join(row) + '\n' for row in rows).encode()
+    return written(lines + [['events']] + events + edge)
 
 
 def main():

@@ -10,6 +10,7 @@ import time
 from harness import run
 
 WORKED = 'examples/worked.txt'
+CRUISE = 'examples/cruise.txt'
 
 # Stands for rt in a small repository: notes each call, and builds a program that copies its input where the crates' text is not that of the last time;
 # fails where the file `broken` is there.
@@ -86,6 +87,8 @@ def arguments(tests, command, folder):
     data = read(WORKED)
     expected = run([command], data)[:2]
     tests.same(command + ': an input has an output', (0, True), (expected[0], expected[1] != b''))
+    status, output, told = run([command])
+    tests.same(command + ': a refusal is a report', (0, True, 1, b''), (status, output.startswith(b'refused\t'), output.count(b'\n'), told))
     for words in ([WORKED], ['--', WORKED]):
         tests.same('%s %s' % (command, ' '.join(words)), expected, run([command] + words)[:2])
     for words in (['-'], ['--', '-'], ['--']):
@@ -229,6 +232,9 @@ def installing(tests, c_program, c_output):
         command = os.path.join(prefix, 'bin/gatecount')
         tests.same('the installed gatecount', (0, read('examples/worked.out'), b''), run([command, WORKED]))
         failures(tests, 'installed: ', [command], read(WORKED), True)
+        sheet = os.path.join(prefix, 'bin/gatesheet')
+        tests.same('the installed gatesheet', (0, read('examples/cruise.out'), b''), run([sheet, CRUISE]))
+        failures(tests, 'installed gatesheet: ', [sheet], read(CRUISE), True)
         for name in programs:
             arguments(tests, os.path.join(prefix, 'bin', name), folder)
         link = os.path.join(folder, 'count')

@@ -23,6 +23,7 @@ REQUESTS = {
     'b': 'decimals/specs/Decimals counter/specs/DecimalEllipse plans/specs/NewWords tables/specs/Floats'.split(),
     'c': ['counter/specs/Walk'],
     'd': 'plans/specs/Symmetric counter/specs/Ellipsoid'.split(),
+    'e': 'tallies/specs/Sums sheet/specs/Sheet'.split(),
 }
 
 
