@@ -20,9 +20,13 @@ plain_counter() {
         -Dgate_count=plain_count -x c -c - -o $out/objects/plain.o
 }
 
-# Renames in the program's object file what it starts with and what it reads and writes with: lent_program FROM TO.
+# What is put together in C of an input, with a fault planted by a sed command.
+faulty_table() { sed "$1" tests/fuzz/table.c | gcc -std=c11 -O2 -Iinclude -Itests/fuzz -x c -c - -o $out/objects/table.o; }
+
+# Renames in a program's object file what it starts with and what it reads and writes with: lent_program NAME FROM TO. It defines
+# no other global name, so that two programs do not clash.
 lent_program() {
-    objcopy --redefine-sym main=gatecount_main --redefine-sym read=given_read --redefine-sym write=printed_write "$1" "$2"
+    objcopy --redefine-sym main="$1_main" --redefine-sym read=given_read --redefine-sym write=printed_write "$2" "$3"
 }
 
 # objects NAME ..: the harness's object files of these names.

@@ -2,12 +2,12 @@
 """The inputs of the fuzzer: where they begin, and what the reference says of those it found.
 
     tests/fuzz/corpus.py seeds TABLES PLANS
-        writes the seeds: the examples, the inputs of docs/REFUSALS.md, and their plans and questions
-    tests/fuzz/corpus.py compare TABLES PLANS [--gatecount PATH] [--plans PATH] [--keep FOLDER]
-        each file of TABLES through gatecount, and its table as a question `compile`; each file of PLANS as the
-        questions `check`, `judge` and `count` (see tests/compare.py): all answers must be the reference's
+        writes the seeds: the examples, the inputs of the documents, inputs of several lists, and their plans and questions
+    tests/fuzz/corpus.py compare TABLES PLANS [--gatecount PATH] [--gatesheet PATH] [--plans PATH] [--keep FOLDER]
+        each file of TABLES through gatecount and through gatesheet, and its table as a question `compile`; each file of
+        PLANS as the questions `check`, `judge` and `count` (see tests/compare.py): all answers must be the reference's
 
-A file of TABLES is an input of gatecount. A file of PLANS is words of 32 bits, lowest byte first: in the first the number
+A file of TABLES is an input of gatecount and gatesheet. A file of PLANS is words of 32 bits, lowest byte first: in the first the number
 of plan words (its low 16 bits), then these, then a list of values.
 """
 
@@ -28,6 +28,7 @@ import gates
 
 MOST = 5000         # numbers of a list in a question
 ROOM = 4096         # words of the slice in a question `compile`
+LISTS = (0, 1, 2, 4, 8, 64, 256, 1024, 10000)
 
 # An ellipse with decimals whose rule passes 64 bits; events on its rim and beside it.
 DECIMAL = (b'dims\tA\tB\nellip\tE\t-\tA\tB\t0\t0\t1600800.1\t800200\t1300000\t2250\nevents\n'
@@ -37,6 +38,15 @@ DECIMAL = (b'dims\tA\tB\nellip\tE\t-\tA\tB\t0\t0\t1600800.1\t800200\t1300000\t22
 ELLIPSOID = (b'dims\tA\tB\tC\nellip3\tE\t-\tA\tB\tC\t0\t0\t0\t4000000\t2000000\t-1400000\t3250000\t650000\t2510000\t900\nevents\n'
              b'20000\t40000\t33000\n20000\t40000\t33001\n20000\t40000\t32999\n60000\t30000\t-21000\n60001\t30000\t-21000\n'
              b'-40000\t-5000\t1000\n0\t0\t-33000\n0\t0\t-33001\n65535\t-65536\t65535\n')
+
+# A parent further down, quadrants with a parent, one of them a parent, and regions with the names of other lines.
+CRUISE = (b'dims\tA\tB\nrect\tevents\ttaken\tB\t0\t9\nquad\tQ\tevents\t1\tB\t1\t5\tLow\t4\tHigh\t5\nrect\tR\tLow\tA\t10\t*\n'
+          b'rect\ttaken\t-\tA\t0\t99\nnot\tN\t-\ttaken\n')
+SOME = b'1\t2\n30\t4\n98\t5\n99\t0\n-1\t7\n20\t70000\n'
+OTHERS = b'11\t3\n12\t8\n70000\t1\n99999999999\t1\n'
+
+# A table with 64 regions.
+BROAD = b'dims\tA\n' + b''.join([b'rect\t%c%c\t-\tA\t*\t*\n' % (65 + i // 8, 65 + i % 8) for i in range(64)])
 
 
 # ---------------------------------------------------------------- seeds
@@ -60,14 +70,32 @@ def store(folder, data):
         file.write(data)
 
 
+def sheets():
+    """Inputs of no list, one, two, three and many; empty ones; bad lines in one or in two; ends without LF."""
+    yield CRUISE
+    for lists in ([SOME], [b''], [SOME, OTHERS], [b'', b''], [OTHERS, SOME, OTHERS[:5]], [b'', SOME, b''], [SOME, b'', OTHERS], [SOME] * 40,
+                  [OTHERS[:5] * (i % 7) + SOME[:4] * (i % 3) for i in range(300)],
+                  [SOME, OTHERS + b'1\n' + SOME], [b'', SOME + b'1\t2\t3\n', b'x\n'], [SOME + b'1\t-0\n', OTHERS], [SOME, OTHERS, b'Events\n'],
+                  [SOME, b'events \n'], [SOME, b'events\t\n'], [SOME, OTHERS + b'1\t2'], [SOME, b'\n']):
+        yield CRUISE + b''.join([b'events\n' + lines for lines in lists])
+    for text in (b'events', b'events\nevents', b'events\n' + SOME + b'events', b'events\n' + SOME + b'events\n' + OTHERS + b'events', b'events\r\n'):
+        yield CRUISE + text
+    yield b'events\nevents\n'
+    # As many lists as there can be, with no region and with 64, and one more; one after the other a list with one event.
+    for table, rest in ((b'dims\tA\n', b'events\n'), (BROAD, b'events\n'), (BROAD, b'events\n5\n'), (BROAD, b'events\nevents\n70000\n')):
+        times = (gates.INPUT_BYTES - len(table)) // len(rest)
+        yield table + rest * times
+        yield table + rest * (times + 1)
+
+
 def seeds(options):
     inputs, plans = [], []
     for path in sorted(glob.glob(os.path.join(ROOT, 'examples', '*.txt'))):
         with open(path, 'rb') as file:
             inputs.append(file.read())
-    for document in ('REFUSALS', 'FORMAT'):
+    for document in ('REFUSALS', 'FORMAT', 'SHEET'):
         for _, _, words, text in users().blocks(os.path.join(ROOT, 'docs', document + '.md')):
-            if words[:1] == ['input']:
+            if words[:1] in (['input'], ['sheet']):
                 inputs.append(text)
             elif words[:1] == ['question'] and not text.startswith(b'compile'):
                 numbers = [int(field) for field in text.split()[1:]]
@@ -75,7 +103,7 @@ def seeds(options):
                 plans.append((plan, numbers[2 + numbers[0]:]))
     # The longest input, and one byte more.
     events = b'dims\tA\nevents\n' + b'5\n' * 32761
-    inputs += [events, events[:-1] + b'5\n', b'x' * 32767 + b'\n', DECIMAL, ELLIPSOID]
+    inputs += [events, events[:-1] + b'5\n', b'x' * 32767 + b'\n', DECIMAL, ELLIPSOID, *sheets()]
     for data in inputs:
         table, lines, _, _ = gates.part_input(data)
         number, _, words, _ = gates.compile_table(table, ROOM)
@@ -126,6 +154,14 @@ class Comparison(compare.Comparison):
                 self.questions[question[0], int(expected.split(b' ')[0])] += 1
                 self.note(actual == expected, 'question %s of %s' % (question[0], name), line + b'\n', expected, actual)
 
+    def sheet_of(self, name, data):
+        expected, actual = gates.gatesheet(data), compare.run(self.options.gatesheet, data)
+        self.note(actual == expected, 'sheet of %s' % name, data, expected, actual)
+        if compare.refusal(expected) == 0:
+            lists = len(gates.part_lists(data)[1])
+            self.lists[next(most for most in LISTS if lists <= most)] += 1
+            self.note(compare.sheet_adds_up(data, actual), 'sums of the sheet of %s' % name, data, expected, actual)
+
     def run(self):
         asked, skipped = [], 0
         for name, data in contents(self.options.tables):
@@ -139,6 +175,7 @@ class Comparison(compare.Comparison):
                 if good is not None:
                     self.sums += 1
                     self.note(good, 'quadrant sums of %s' % name, data, expected, actual)
+            self.sheet_of(name, data)
             table = gates.part_input(data)[0]
             if len(table) < 49000:
                 asked.append((name, ('compile', ROOM, table)))
@@ -151,6 +188,7 @@ class Comparison(compare.Comparison):
             {'accepted' if number == 0 else number: times for number, times in sorted(self.refusals.items())}, False))
         print('kinds in accepted tables: ' + compare.spread({kind.decode(): times for kind, times in self.kinds.items()}))
         print('quadrant sums: %d' % self.sums)
+        print('sheets accepted, by the most lists: ' + compare.spread(dict(sorted(self.lists.items())), False))
         for verb in ('compile', 'check', 'judge', 'count'):
             print('%s: %s' % (verb, compare.spread({number: times for (other, number), times
                                                     in sorted(self.questions.items()) if other == verb}, False)))
@@ -163,13 +201,18 @@ def main():
     parser.add_argument('what', choices=('seeds', 'compare'))
     parser.add_argument('tables', metavar='TABLES')
     parser.add_argument('plans_folder', metavar='PLANS')
-    parser.add_argument('--gatecount', type=compare.command, default='target/bin/gatecount', metavar='PATH')
-    parser.add_argument('--plans', type=compare.command, default='target/c/plans', metavar='PATH')
+    parser.add_argument('--gatecount', default='target/bin/gatecount', metavar='PATH')
+    parser.add_argument('--gatesheet', default='target/bin/gatesheet', metavar='PATH')
+    parser.add_argument('--plans', default='target/c/plans', metavar='PATH')
     parser.add_argument('--keep', metavar='FOLDER', help='where the first differing inputs go')
     options = parser.parse_args()
     if options.what == 'seeds':
         seeds(options)
         return
+    try:
+        options.gatecount, options.gatesheet, options.plans = map(compare.command, (options.gatecount, options.gatesheet, options.plans))
+    except argparse.ArgumentTypeError as missing:
+        parser.error(str(missing))
     comparison = Comparison(options)
     comparison.run()
     print('%d passed, %d failed' % (comparison.passed, comparison.failed))

@@ -1,7 +1,9 @@
 /*
- * faulty.c: the proved compiler and the proved judging, one of them with something added: tests/fuzz/check links them in the
- * place of these, to see that the harness sees each FAULT.
+ * faulty.c: the proved compiler, the proved judging and the program `gatesheet`, one of them with something added: tests/fuzz/check
+ * links them in the place of these, to see that the harness sees each FAULT.
  */
+#include <sys/types.h>
+
 #include "gatecompile.h"
 #include "gatecount.h"
 
@@ -61,4 +63,39 @@ void __wrap_gate_judge_row4(const int32_t *plan, size_t plan_len, const int32_t 
     case 11: /* it writes behind its row */
         *(volatile uint64_t *)&out[GATE_JUDGE_OUT] = 0;
     }
+}
+
+int __real_gatesheet_main(int argc, char **argv);
+int __wrap_gatesheet_main(int argc, char **argv);
+ssize_t __real_given_read(int fd, void *into, size_t room);
+ssize_t __wrap_given_read(int fd, void *into, size_t room);
+ssize_t __real_printed_write(int fd, const void *from, size_t length);
+ssize_t __wrap_printed_write(int fd, const void *from, size_t length);
+
+static int in_sheet;
+
+int __wrap_gatesheet_main(int argc, char **argv)
+{
+    in_sheet = 1;
+    int status = __real_gatesheet_main(argc, argv);
+    in_sheet = 0;
+    if (FAULT == 12) /* it prints a byte more */
+        __real_printed_write(1, "", 1);
+    return FAULT == 13 ? 1 : status; /* it ends with another status */
+}
+
+/* It takes a read that fails as the end of the input. */
+ssize_t __wrap_given_read(int fd, void *into, size_t room)
+{
+    ssize_t length = __real_given_read(fd, into, room);
+    return FAULT == 14 && in_sheet && length < 0 ? 0 : length;
+}
+
+ssize_t __wrap_printed_write(int fd, const void *from, size_t length)
+{
+    if (FAULT == 15 && in_sheet && fd == 2) /* it tells nothing */
+        return (ssize_t)length;
+    ssize_t written = __real_printed_write(fd, from, length);
+    /* It takes a part that was written as the whole. */
+    return FAULT == 16 && in_sheet && written >= 0 ? (ssize_t)length : written;
 }

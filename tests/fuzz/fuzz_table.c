@@ -71,7 +71,7 @@ size_t LLVMFuzzerCustomMutator(uint8_t *data, size_t size, size_t most, unsigned
     if (size == 0 || size >= sizeof kept || next_of(&state) % 2)
         return LLVMFuzzerMutate(data, size, most);
     for (uint64_t times = 1 + next_of(&state) % 3; times > 0 && size > 0; times--) {
-        uint64_t kind = next_of(&state) % 8;
+        uint64_t kind = next_of(&state) % 9;
         struct part field = any_field(data, size, &state), line = any_line(data, size, &state), other;
         char text[32];
         size_t length;
@@ -120,6 +120,10 @@ size_t LLVMFuzzerCustomMutator(uint8_t *data, size_t size, size_t most, unsigned
             }
             other.end = other.at;
             size = put(data, size, most, other, kept, length);
+            break;
+        case 7: /* a list begins before a line */
+            line.end = line.at;
+            size = put(data, size, most, line, "events\n", 7);
             break;
         default: /* a copy of a line with a new name */
             memcpy(kept, data + line.at, line.end - line.at);

@@ -1,9 +1,9 @@
 /*
- * table.c: an input of `gatecount` through the whole program, and its table through the compiler and the counter.
+ * table.c: an input through the whole programs `gatecount` and `gatesheet`, and its table through the compiler and the counter.
  *
- * The program is linked under other names: its `main` is gatecount_main, and what it reads and writes with is given_read and
- * printed_write. What it prints must be what is put together here from the compiler's answer, the plain counter and the names
- * of an accepted table.
+ * The programs are linked under other names: their `main` is gatecount_main and gatesheet_main, and what they read and write with
+ * is given_read and printed_write. What they print must be what is put together here from the compiler's answer, the plain
+ * counter, and the names and parents of an accepted table.
  */
 #include <errno.h>
 #include <inttypes.h>
@@ -15,18 +15,26 @@
 #include "gatecount.h"
 #include "tries.h"
 
-enum { INPUT_BYTES = 65536, PRINTED = 8192, VALUES = 65536, UNTOUCHED = 2100000000 };
+enum { INPUT_BYTES = 65536, COUNTS = 8192, SHEET = 1250000, TOLD = 8192, VALUES = 65536, LISTS = INPUT_BYTES / 7, UNTOUCHED = 2100000000 };
 
-/* ---- The program's reading and writing ---- */
+/* ---- The programs' reading and writing ---- */
 
 int gatecount_main(int argc, char **argv);
+int gatesheet_main(int argc, char **argv);
+
+struct program {
+    char *name;
+    int (*start)(int argc, char **argv);
+    size_t most; /* bytes that it may print */
+};
+static const struct program GATECOUNT = {"gatecount", gatecount_main, COUNTS}, GATESHEET = {"gatesheet", gatesheet_main, SHEET};
 
 static struct {
     const uint8_t *data;
     size_t size, at, piece; /* no read and no write is longer than a piece */
     int bad_read, bad_write;
-    char printed[PRINTED], told[PRINTED];
-    size_t printed_len, told_len;
+    char printed[SHEET], told[TOLD];
+    size_t printed_len, printed_most, told_len;
 } run;
 
 ssize_t given_read(int fd, void *into, size_t room)
@@ -58,37 +66,61 @@ ssize_t printed_write(int fd, const void *from, size_t length)
     size_t *at = fd == 1 ? &run.printed_len : &run.told_len;
     if (length > run.piece)
         length = run.piece;
-    MUST(*at + length <= PRINTED);
+    MUST(*at + length <= (fd == 1 ? run.printed_most : TOLD));
     memcpy(into + *at, from, length);
     *at += length;
     return (ssize_t)length;
 }
 
-static void gatecount(const uint8_t *data, size_t size, size_t piece, int bad_read, int bad_write)
+static void lent_run(const struct program *program, const uint8_t *data, size_t size, size_t piece, int bad_read, int bad_write)
 {
     run.data = data;
     run.size = size;
     run.at = run.printed_len = run.told_len = 0;
+    run.printed_most = program->most;
     run.piece = piece;
     run.bad_read = bad_read;
     run.bad_write = bad_write;
-    MUST(gatecount_main(1, (char *[]){"gatecount", NULL}) == 0);
+    MUST(program->start(1, (char *[]){program->name, NULL}) == 0);
 }
 
-/* ---- The same put together here ---- */
+/* ---- The same put together here: text ---- */
 
-static char wanted[PRINTED];
+static char wanted[SHEET];
 static size_t wanted_len;
 
-static void want(const char *name, size_t name_len, uint64_t count)
+static void want_text(const void *text, size_t length)
 {
-    wanted_len += (size_t)snprintf(wanted + wanted_len, PRINTED - wanted_len, "%.*s\t%" PRIu64 "\n", (int)name_len, name, count);
+    MUST(length <= SHEET - wanted_len);
+    memcpy(wanted + wanted_len, text, length);
+    wanted_len += length;
+}
+
+/* A tab and a number. */
+static void want_number(uint64_t number)
+{
+    char text[24];
+    want_text(text, (size_t)snprintf(text, sizeof text, "\t%" PRIu64, number));
+}
+
+/* A line with one number. */
+static void want(const void *name, size_t name_len, uint64_t count)
+{
+    want_text(name, name_len);
+    want_number(count);
+    want_text("\n", 1);
 }
 
 static void want_refused(uint64_t number, uint64_t place)
 {
-    wanted_len = (size_t)snprintf(wanted, PRINTED, "refused\t%" PRIu64 "\t%" PRIu64 "\n", number, place);
+    wanted_len = 0;
+    want_text("refused", 7);
+    want_number(number);
+    want_number(place);
+    want_text("\n", 1);
 }
+
+/* ---- Reading an input ---- */
 
 /* Where the line that begins at `at` ends: its LF, or the end of the input. */
 static size_t line_end(const uint8_t *data, size_t size, size_t at)
@@ -140,30 +172,66 @@ static int event(const uint8_t *data, size_t at, size_t end, int32_t n, int32_t 
     }
 }
 
-/* Names and counts of the regions of an accepted table; how many regions it has. */
-static uint64_t want_regions(const uint8_t *table, size_t size, const uint64_t *counts)
+/* Whether the line from `at` to before `end` begins a list. */
+static int opens_list(const uint8_t *data, size_t at, size_t end)
 {
-    uint64_t region = 0;
+    return end - at == 6 && memcmp(data + at, "events", 6) == 0;
+}
+
+struct field {
+    const uint8_t *at;
+    size_t length;
+};
+
+static int same_field(struct field one, struct field other)
+{
+    return one.length == other.length && memcmp(one.at, other.at, one.length) == 0;
+}
+
+/* The regions of an accepted table: the name, and the parent in the line. */
+static struct region {
+    struct field name, parent;
+} regions[GATE_REGIONS];
+static size_t regions_len;
+
+static void add_region(struct field name, struct field parent)
+{
+    MUST(regions_len < GATE_REGIONS);
+    regions[regions_len++] = (struct region){name, parent};
+}
+
+static void find_regions(const uint8_t *table, size_t size)
+{
+    regions_len = 0;
     for (size_t at = line_end(table, size, 0) + 1; at < size;) {
-        size_t end = line_end(table, size, at), length[600], start[600];
+        size_t end = line_end(table, size, at);
+        struct field field[600];
         int fields = 0;
-        for (size_t from = at; from <= end && fields < 600; from = start[fields - 1] + length[fields - 1] + 1) {
-            start[fields] = from;
-            length[fields] = field_end(table, end, from) - from;
-            fields++;
-        }
-        if (length[0] != 4 || memcmp(table + at, "quad", 4) != 0) {
-            want((const char *)table + start[1], length[1], counts[region++]);
+        for (size_t from = at; from <= end && fields < 600; from += field[fields++].length + 1)
+            field[fields] = (struct field){table + from, field_end(table, end, from) - from};
+        if (!same_field(field[0], (struct field){(const uint8_t *)"quad", 4})) {
+            add_region(field[1], field[2]);
         } else {
-            int dividers = table[start[3]] - '0', field = 4;
-            for (int i = 0; i < dividers; i++)
-                field += 2 + (table[start[field + 1]] - '0');
-            for (; field < fields; field += 1 + dividers)
-                want((const char *)table + start[field], length[field], counts[region++]);
+            int dividers = *field[3].at - '0', i = 4;
+            for (int k = 0; k < dividers; k++)
+                i += 2 + (*field[i + 1].at - '0');
+            for (; i < fields; i += 1 + dividers)
+                add_region(field[i], field[2]);
         }
         at = end + 1;
     }
-    return region;
+}
+
+/* The number of a region's parent, by its name in the region's line. */
+static int32_t parent_of(size_t region)
+{
+    if (same_field(regions[region].parent, (struct field){(const uint8_t *)"-", 1}))
+        return GATE_NO_PARENT;
+    for (size_t i = 0; i < regions_len; i++)
+        if (same_field(regions[i].name, regions[region].parent))
+            return (int32_t)i;
+    MUST(!"a parent that is a region");
+    return 0;
 }
 
 /* ---- Compiling ---- */
@@ -227,36 +295,51 @@ static size_t compiling(const uint8_t *table, size_t size, int32_t plan[GATE_MAX
 
 /* ---- One input ---- */
 
-/* Puts together what must be printed. */
-static void want_report(const uint8_t *data, size_t size, uint64_t seed)
+/* The table of an input, which ends before the first line `events`. */
+static struct {
+    size_t size;
+    uint64_t lines;
+    uint64_t refusal, place; /* what the input is refused with before its lists are read; 0 where it is not */
+    int32_t plan[GATE_MAX_WORDS];
+    size_t words;
+} table;
+
+static void compile_input(const uint8_t *data, size_t size, uint64_t seed)
 {
-    static int32_t plan[GATE_MAX_WORDS];
-    uint64_t out[4], tally[GATE_COUNT_OUT], line = 1;
-    size_t table = 0;
-    wanted_len = 0;
-    /* The table ends before the first line `events`. */
-    while (table < size) {
-        size_t end = line_end(data, size, table);
-        if (end - table == 6 && memcmp(data + table, "events", 6) == 0)
+    uint64_t out[4];
+    table.size = table.lines = 0;
+    while (table.size < size) {
+        size_t end = line_end(data, size, table.size);
+        if (opens_list(data, table.size, end))
             break;
-        table = end < size ? end + 1 : size;
-        line++;
+        table.size = end < size ? end + 1 : size;
+        table.lines++;
     }
-    size_t words = compiling(data, table, plan, out, seed);
-    if (size > INPUT_BYTES) {
-        want_refused(1, 0);
+    table.words = compiling(data, table.size, table.plan, out, seed);
+    table.refusal = size > INPUT_BYTES ? 1 : out[GATE_COMPILE_REFUSAL];
+    table.place = size > INPUT_BYTES ? 0 : out[GATE_COMPILE_PLACE];
+    if (table.refusal != 0)
         return;
-    }
-    if (words == 0) {
-        want_refused(out[GATE_COMPILE_REFUSAL], out[GATE_COMPILE_PLACE]);
-        return;
-    }
-    MUST(out[GATE_COMPILE_REGIONS] == (uint64_t)plan[1]);
-    MUST(same_answers(plan, words, values, 0));
-    same_on_near_events(plan, words, seed);
+    MUST(out[GATE_COMPILE_REGIONS] == (uint64_t)table.plan[1]);
+    find_regions(data, table.size);
+    MUST(out[GATE_COMPILE_REGIONS] == regions_len);
+    for (size_t at = 2; at < table.words; at += 4 + (size_t)table.plan[at + 3])
+        MUST(table.plan[at + 2] == parent_of((size_t)table.plan[at + 1]));
+    MUST(same_answers(table.plan, table.words, values, 0));
+    same_on_near_events(table.plan, table.words, seed);
+}
+
+/* Puts together what `gatecount` must print. */
+static void want_counts(const uint8_t *data, size_t size)
+{
+    uint64_t tally[GATE_COUNT_OUT], line = table.lines + 1;
     size_t length = 0;
-    if (table < size) {
-        size_t at = table + 7;
+    if (table.refusal != 0) {
+        want_refused(table.refusal, table.place);
+        return;
+    }
+    if (table.size < size) {
+        size_t at = table.size + 7;
         if (at > size) {
             want_refused(23, line);
             return;
@@ -266,35 +349,112 @@ static void want_report(const uint8_t *data, size_t size, uint64_t seed)
             line++;
             /* A list of 65,536 bytes has fewer values than there is room for, but a bad line may have n more. */
             MUST(length + 8 <= VALUES);
-            if (end == size || !event(data, at, end, plan[0], values + length)) {
+            if (end == size || !event(data, at, end, table.plan[0], values + length)) {
                 want_refused(23, line);
                 return;
             }
-            length += (size_t)plan[0];
+            length += (size_t)table.plan[0];
             at = end + 1;
         }
     }
-    MUST(same_answers(plan, words, values, length));
-    plain_count(plan, words, values, length, tally);
+    MUST(same_answers(table.plan, table.words, values, length));
+    plain_count(table.plan, table.words, values, length, tally);
     MUST(tally[GATE_OUT_REFUSAL] == 0);
-    MUST(want_regions(data, table, tally + GATE_OUT_COUNTS) == out[GATE_COMPILE_REGIONS]);
+    wanted_len = 0;
+    for (size_t i = 0; i < regions_len; i++)
+        want(regions[i].name.at, regions[i].name.length, tally[GATE_OUT_COUNTS + i]);
     want("taken", 5, tally[GATE_OUT_TAKEN]);
     want("spoilt", 6, tally[GATE_OUT_SPOILT_COUNT]);
+}
+
+/* What is counted in each list, and in one that has all their events. */
+static uint64_t tallies[LISTS][GATE_COUNT_OUT], joined[GATE_COUNT_OUT];
+static size_t lists;
+
+/* A name, a number of each list, and the sum. */
+static void want_columns(const void *name, size_t name_len, size_t number)
+{
+    uint64_t sum = 0;
+    want_text(name, name_len);
+    for (size_t i = 0; i < lists; i++) {
+        want_number(tallies[i][number]);
+        sum += tallies[i][number];
+    }
+    MUST(sum == joined[number]);
+    want_number(sum);
+}
+
+/* Puts together what `gatesheet` must print. */
+static void want_sheet(const uint8_t *data, size_t size)
+{
+    static size_t starts[LISTS + 1]; /* where a list begins among the values */
+    size_t length = 0;
+    uint64_t line = table.lines;
+    if (table.refusal != 0) {
+        want_refused(table.refusal, table.place);
+        return;
+    }
+    lists = 0;
+    for (size_t at = table.size; at < size;) {
+        size_t end = line_end(data, size, at);
+        int opens = opens_list(data, at, end);
+        line++;
+        MUST(length + 8 <= VALUES);
+        if (end == size || (!opens && !event(data, at, end, table.plan[0], values + length))) {
+            want_refused(23, line);
+            return;
+        }
+        if (opens)
+            starts[lists++] = length;
+        else
+            length += (size_t)table.plan[0];
+        at = end + 1;
+    }
+    starts[lists] = length;
+    /* One list is that of `gatecount`. */
+    MUST(lists == 1 || same_answers(table.plan, table.words, values, length));
+    plain_count(table.plan, table.words, values, length, joined);
+    for (size_t i = 0; i < lists; i++) {
+        plain_count(table.plan, table.words, values + starts[i], starts[i + 1] - starts[i], tallies[i]);
+        MUST(tallies[i][GATE_OUT_REFUSAL] == 0);
+    }
+    wanted_len = 0;
+    for (size_t i = 0; i < regions_len; i++) {
+        int32_t parent = parent_of(i);
+        want_columns(regions[i].name.at, regions[i].name.length, GATE_OUT_COUNTS + i);
+        want_number(joined[GATE_OUT_COUNTS + i]);
+        want_number(joined[parent == GATE_NO_PARENT ? GATE_OUT_TAKEN : GATE_OUT_COUNTS + parent]);
+        want_text("\n", 1);
+    }
+    want_columns("taken", 5, GATE_OUT_TAKEN);
+    want_text("\n", 1);
+    want_columns("spoilt", 6, GATE_OUT_SPOILT_COUNT);
+    want_text("\n", 1);
+    want("events", 6, length / (size_t)table.plan[0]);
+}
+
+/* Runs a program, which must print what is wanted. */
+static void same_printed(const struct program *program, const uint8_t *data, size_t size, uint64_t seed)
+{
+    size_t piece = seed % 4 ? (size_t)1 << 22 : 1 + seed % 5000, name_len = strlen(program->name);
+    lent_run(program, data, size, piece, 0, 0);
+    MUST(run.told_len == 0);
+    MUST(run.printed_len == wanted_len);
+    MUST(memcmp(run.printed, wanted, wanted_len) == 0);
+    /* Where reading or writing fails, it is told, and nothing is printed. */
+    for (int reading = 0; seed % 16 == 0 && size <= INPUT_BYTES && reading < 2; reading++) {
+        lent_run(program, data, size, piece, reading, !reading);
+        MUST(run.printed_len == 0);
+        MUST(run.told_len > name_len && memcmp(run.told, program->name, name_len) == 0);
+    }
 }
 
 void try_table(const uint8_t *data, size_t size)
 {
     uint64_t seed = hash_of(data, size);
-    size_t piece = seed % 4 ? (size_t)1 << 20 : 1 + seed % 5000;
-    want_report(data, size, seed);
-    gatecount(data, size, piece, 0, 0);
-    MUST(run.told_len == 0);
-    MUST(run.printed_len == wanted_len);
-    MUST(memcmp(run.printed, wanted, wanted_len) == 0);
-    /* Where reading or writing fails, it is told, and nothing is printed. */
-    if (seed % 16 == 0 && size <= INPUT_BYTES) {
-        gatecount(data, size, piece, seed % 32 == 0, seed % 32 != 0);
-        MUST(run.printed_len == 0);
-        MUST(run.told_len > 0);
-    }
+    compile_input(data, size, seed);
+    want_counts(data, size);
+    same_printed(&GATECOUNT, data, size, seed);
+    want_sheet(data, size);
+    same_printed(&GATESHEET, data, size, seed);
 }

@@ -7,7 +7,7 @@
 #include <stddef.h>
 #include <stdint.h>
 
-/* An input of `gatecount`: through the whole program, the compiler and the counter. */
+/* An input of `gatecount` and `gatesheet`: through both whole programs, the compiler and the counter. */
 void try_table(const uint8_t *data, size_t size);
 
 /* Words of 32 bits, lowest byte first: in the first the number of plan words, then these, then a list of values. */
