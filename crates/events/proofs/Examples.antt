@@ -3,13 +3,13 @@ use mathlib.Core.Path.{_≡_, refl}
 use mathlib.Core.List.{List, [], _∷_, map, flatMap}
 use Prim.Native.Nat.{ℕ}
 use Prim.Native.String.{String, _++_}
-use lib.IntN.{pos, negsuc}
+use lib.IntN.{ℤ, pos, negsuc}
 use Rattle.text.specs.Bytes.{bytes, same}
 use Rattle.text.specs.Numbers.{isNegative, unsigned, isPositive, isNumber, numberValue}
 use Rattle.text.specs.Lines.{fields, lines, endsInLF}
 use Rattle.text.specs.Output.{decimal}
 use Rattle.events.specs.Parting.{tableLines, tableEnd, hasEvents, tablePart, eventsEnded, eventPart}
-use Rattle.events.specs.Listing.{Events, list, ragged, isEvent, goodLines, badLine, raggedLine, lineValues, values, eventsOf}
+use Rattle.events.specs.Listing.{Events, list, ragged, isEvent, isListLine, goodLines, badLine, raggedLine, lineValues, values, eventsOf, listLines, valueLists}
 use Rattle.events.specs.Printing.{countLine, takenLine, spoiltLine, refusedLine}
 
 -- ── Inputs ──
@@ -72,6 +72,38 @@ pub example-events : map (λ e. eventsOf (e .n) (bytes (e .input))) examples ≡
 unfolding eventsOf hasEvents eventsEnded eventPart tableEnd tableLines raggedLine badLine goodLines isEvent values lineValues flatMap lines fields endsInLF same
     isNumber isPositive isNegative unsigned numberValue
 example-events = refl
+
+-- ── Several lists ──
+
+-- an input, its lists, and its lowest bad line where there may be several lists
+record Lists : Type 0 where
+  n : ℕ
+  input : String
+  lists : List (List ℤ)
+  bad : ℕ
+
+abbrev several : List Lists
+several =
+    -- three lists, the second empty
+    record { n = 1; input = "dims\tA\nevents\n1\n2\nevents\nevents\n3\n"; lists = (pos 1 ∷ pos 2 ∷ []) ∷ [] ∷ (pos 3 ∷ []) ∷ []; bad = 0 }
+    -- two values an event
+    ∷ record { n = 2; input = "dims\tA\tB\nevents\n1\t2\nevents\n3\t4\n"; lists = (pos 1 ∷ pos 2 ∷ []) ∷ (pos 3 ∷ pos 4 ∷ []) ∷ []; bad = 0 }
+    -- no line `events`, and one with nothing behind it
+    ∷ record { n = 1; input = "dims\tA\n"; lists = []; bad = 0 }
+    ∷ record { n = 1; input = "dims\tA\nevents\n"; lists = [] ∷ []; bad = 0 }
+    -- a further `events` without LF; bad lines in the second and the third list, of which the lowest counts
+    ∷ record { n = 1; input = "dims\tA\nevents\n1\nevents"; lists = (pos 1 ∷ []) ∷ [] ∷ []; bad = 4 }
+    ∷ record { n = 1; input = "dims\tA\nevents\n1\nevents\n2\t3\nevents\nx\n"; lists = (pos 1 ∷ []) ∷ (pos 2 ∷ pos 3 ∷ []) ∷ (pos 72 ∷ []) ∷ []; bad = 5 }
+    ∷ []
+
+pub several-lists : map (λ e. valueLists (bytes (e .input))) several ≡ map (λ e. e .lists) several
+unfolding valueLists listLines lineValues flatMap lines fields same numberValue isNegative unsigned
+several-lists = refl
+
+pub several-bad : map (λ e. raggedLine (isListLine (e .n)) (bytes (e .input))) several ≡ map (λ e. e .bad) several
+unfolding raggedLine hasEvents eventsEnded eventPart tableEnd tableLines badLine goodLines isListLine isEvent lines fields endsInLF same
+    isNumber isPositive isNegative unsigned
+several-bad = refl
 
 -- ── Printed lines ──
 

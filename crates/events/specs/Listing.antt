@@ -17,10 +17,11 @@ use Rattle.events.specs.Parting.{tableLines, hasEvents, eventsEnded, eve
 unfoldable pub isEvent : ℕ → List ℕ → Bool
 isEvent n line = eqb (length (fields line)) n && every isNumber (fields line)
 
--- a line behind the first `events`, where there is one list, or where there are several: an event, or `events` again
+-- where there are several lists: an event, or `events` again
 unfoldable pub isListLine : ℕ → List ℕ → Bool
 isListLine n line = same (bytes "events") line || isEvent n line
 
+-- a good line behind the first `events`, where there may be several lists or not
 abbrev pub goodLine : Bool → ℕ → List ℕ → Bool
 goodLine several n = cond several (isListLine n) (isEvent n)
 

@@ -1,4 +1,4 @@
-// The lines that `gatecount` prints, written into a slice that is lent.
+// The lines that the programs print, written into a slice that is lent.
 ghost use mathlib.Core.Path.{_≡_};
 ghost use Rattle.text.specs.Output.{decimal, over, Writes};
 ghost use Rattle.text.specs.Inner.Writing.{WritesFrom};

@@ -21,7 +21,8 @@ use Rattle.text.proofs.WritingLaws.{over-from}
 use Rattle.counter.specs.declared.Tally.{Tally}
 use Rattle.counter.specs.Counting.{noTally, Counting, countOf}
 use Rattle.tallies.specs.Sums.{together, total, wrapped}
-use Rattle.tallies.proofs.SumLaws.{Within, within-none, within-more, within-together, wrapped-small, total-more}
+use Rattle.tallies.specs.Inner.Bounds.{Within}
+use Rattle.tallies.proofs.SumLaws.{within-none, within-more, within-together, wrapped-small, total-more}
 use Rattle.tallies.proofs.SumTheorems.{count-within}
 use Rattle.events.specs.Parting.{tableEnd, tablePart}
 use Rattle.events.specs.Listing.{isEvent, isListLine, raggedLine, lineValues, values, listLines}
@@ -31,15 +32,10 @@ use Rattle.events.proofs.EventTheorems.{lines-bytes}
 use Rattle.events.proofs.ListsLaws.{unlines-length, Opens, opens-first, opens-next, listsFrom, lists-first, lists-next, lists-few, lists-good, AllEvents, end-inside}
 use Rattle.events.proofs.CountedLaws.{count-clamped}
 use Rattle.sheet.specs.Inner.Columns.{numbersOf}
-use Rattle.sheet.specs.Inner.Counts.{AtMost, SomeEvents, talliesOf, CountedLists}
+use Rattle.sheet.specs.Inner.Counts.{SomeEvents, talliesOf, CountedLists}
 use Rattle.sheet.proofs.ColumnLaws.{numbers-length}
 
 -- ---- one list
-
-most-of : (most : ℕ) {e : ℕ} {t : Tally} → e ≤ most → Within e t → AtMost most t
-most-of most l w =
-    let v = within-more l w in
-    record { taken-most = v .taken-most; spoilt-most = v .spoilt-most; count-most = v .count-most; long = v .long }
 
 module _ (n : ℕ) (part : List ℕ) (short : length part ≤ 65535) (good : every (isEvent n) (lines part) ≡ true) where
   kept-are : valuesKept part ≡ map clamp (values part)
@@ -60,13 +56,10 @@ module _ (n : ℕ) (part : List ℕ) (short : length part ≤ 65535) (good : eve
         let f : take m x ≡ v = rw (e, w, over-fits v d (omega (arith, kept-few, room))) (take-append-seam v (drop (length v) d)) in
         rw (f, kept-are) (count-clamped p (values part))
 
-  pub list-most : (p : List ℤ) → AtMost 32768 (countOf p (values part) .tally)
-  list-most p = most-of 32768 (omega (arith, div-le-self (length (values part)) (width p), values-few)) (count-within p (values part))
+  pub list-most : (p : List ℤ) → Within 32768 (countOf p (values part) .tally)
+  list-most p = within-more (omega (arith, div-le-self (length (values part)) (width p), values-few)) (count-within p (values part))
 
 -- ---- the tallies of lists
-
-within-of : {e : ℕ} {t : Tally} → AtMost e t → Within e t
-within-of m = record { taken-most = m .taken-most; spoilt-most = m .spoilt-most; count-most = m .count-most; long = m .long }
 
 listed-values : (p : List ℤ) (rest : List ℕ) → countOf p (values (tablePart rest)) .tally ≡ countOf p (flatMap lineValues (lines (tablePart rest))) .tally
 unfolding values
@@ -81,9 +74,6 @@ numbers-more : (ts : List Tally) (t : Tally) → flatMap numbersOf (ts ++ (t ∷
 unfolding flatMap
 numbers-more [] t = append-nil (numbersOf t)
 numbers-more (u ∷ ts) t = rw (numbers-more ts t) (sym (append-assoc (numbersOf u) (flatMap numbersOf ts) (numbersOf t)))
-
-pub most-more : {t : Tally} → AtMost 306774016 t → AtMost 1000000000 t
-most-more m = most-of 1000000000 (omega arith) (within-of m)
 
 -- ---- the lists one behind the other
 
@@ -144,7 +134,7 @@ module _ (n : ℕ) (p : List ℤ) (s d : List ℕ) (short : length s ≤ 65536) 
             ap length next-is,
           )
 
-      pub done-more : {tally next : Tally} → tally ≡ countOf p (values (tablePart (drop (at + 7) s))) .tally → AtMost 32768 tally
+      pub done-more : {tally next : Tally} → tally ≡ countOf p (values (tablePart (drop (at + 7) s))) .tally → Within 32768 tally
           → next ≡ wrapped (together t tally)
           → {y : List ℕ} → y ≡ overFrom (k * 66) (numbersOf tally) x → {end : ℕ} → end ≡ tableEnd (drop (at + 7) s)
           → Done n p s d (at + (7 + end)) (k + 1) next y
@@ -152,7 +142,7 @@ module _ (n : ℕ) (p : List ℤ) (s d : List ℕ) (short : length s ≤ 65536) 
           let rest = drop (at + 7) s in
           let ls = lines (tablePart rest) in
           let i : tally ≡ countOf p (flatMap lineValues ls) .tally = e ∙ listed-values p rest in
-          let v = within-together (w .within) (within-of m) in
+          let v = within-together (w .within) m in
           let u : next ≡ together t tally = f ∙ wrapped-small v (omega (arith, lists-room)) in
           let j : at + (7 + end) ≡ at + 7 + tableEnd rest = omega (arith, h) in
           let b : 32768 * k + 32768 ≤ 32768 * (k + 1) = omega arith in
@@ -185,6 +175,6 @@ module _ (n : ℕ) (p : List ℤ) (s d : List ℕ) (short : length s ≤ 65536) 
           record {
             lists-are = sym (ap length all-done ∙ w .count);
             total-is = rw all-done (w .sum-is);
-            total-most = most-of 306774016 (omega (arith, lists-few s, ap length all-done, w .count)) (w .within);
+            total-most = within-more (omega (arith, lists-few s, ap length all-done, w .count)) (w .within);
             written = rw all-done (w .written);
           }

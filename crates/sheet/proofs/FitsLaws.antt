@@ -19,7 +19,7 @@ use Rattle.text.proofs.OutputLaws.{decimal-length}
 use Rattle.counter.specs.declared.Tally.{Tally}
 use Rattle.counter.specs.Counting.{countOf}
 use Rattle.tallies.specs.Sums.{total}
-use Rattle.tallies.proofs.SumLaws.{Within}
+use Rattle.tallies.specs.Inner.Bounds.{Within}
 use Rattle.tallies.proofs.SumTheorems.{count-within}
 use Rattle.gates.specs.Gate.{regions}
 use Rattle.tables.specs.Table.{sumOf}

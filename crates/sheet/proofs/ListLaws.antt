@@ -3,14 +3,14 @@ use mathlib.Core.Path.{_≡_, refl, ap, ap₂, _∙_}
 use mathlib.Core.Bool.{Bool, true, false, not, cond}
 use mathlib.Core.Logic.{_⊎_, inl, inr}
 use mathlib.Core.List.{List, [], _∷_, _++_, map, flatMap, List·Memᴰ·head as here, List·Memᴰ·tail as there}
-use Prim.Native.Nat.{ℕ, _%_, _≤_, _<_}
+use Prim.Native.Nat.{ℕ, suc, _+_, _%_, _≤_, _<_}
 use native.Mathlib.Omega.{arith}
 use lib.IntN.{ℤ}
-use lib.ListN.{length, length-map}
+use lib.ListN.{length, drop, length-map}
 use borrow.Author.Tests.{le-ltb}
 use Rattle.text.specs.Bytes.{every, before}
 use Rattle.text.specs.Lines.{lines, endsInLF}
-use Rattle.text.proofs.TestLaws.{and-left, and-right}
+use Rattle.text.proofs.TestLaws.{and-left, and-right, passed-or-failed}
 use Rattle.text.proofs.LinesLaws.{lines-end}
 use Rattle.counter.specs.declared.Tally.{Tally}
 use Rattle.counter.specs.Counting.{noTally, countOf}
@@ -26,7 +26,7 @@ use Rattle.events.proofs.AnswerLaws.{unragged, ragged-nowhere, events-good}
 use Rattle.events.proofs.BadLine.{none-bad}
 use Rattle.events.proofs.EventTheorems.{inside, line-is}
 use Rattle.events.proofs.ListsLaws.{opening-lists, lists-first, lists-good}
-use Rattle.sheet.specs.Sheet.{listed, countIn, listTallies}
+use Rattle.sheet.specs.Sheet.{withSum, countIn, listTallies}
 
 -- ---- lists of values
 
@@ -81,7 +81,7 @@ module _ {table : List ℕ} {lists : List (List ℤ)} {number : Tally → ℕ} {
   unfolding listTallies
   number-summed = known .adds (map tallyBy lists) ∙ sum-map number tallyBy lists ∙ sum-same _ f lists (known .each)
 
-  pub number-listed : listed number (listTallies table lists) ≡ allListed f lists
+  pub number-listed : withSum number (listTallies table lists) ≡ allListed f lists
   unfolding listTallies
   number-listed = ap₂ (λ (ns : List ℕ) (n : ℕ). ns ++ (n ∷ [])) (map-twice number tallyBy f lists (known .each)) number-summed
 
@@ -168,3 +168,34 @@ module _ (n : ℕ) (input : List ℕ) (good : raggedLine (isListLine n) input �
       go (inr h) =
           let e = all-good (isEvent n) (eventPart input) (all-events (h .0)) (none-bad (isListLine n) (eventPart input) (h .2) .1) in
           events-good n input (omega (arith, ragged-nowhere (isEvent n) input (h .0) (h .1) (omega (arith, e)))) ∙ ap list (its-values (h .0))
+
+-- ---- an input without a further `events`: the lowest bad line is that where one list is read
+
+lines-alike : (n : ℕ) (ls : List (List ℕ)) → length (partedLines ls) ≡ 1 → before (λ l. not (isListLine n l)) ls ≡ before (λ l. not (isEvent n l)) ls
+unfolding isListLine
+lines-alike n [] h = refl
+lines-alike n (l ∷ ls) h = go (passed-or-failed (isOpening l)) (partedLines ls) (parted-some ls) h (lines-alike n ls)
+  where
+    go : (isOpening l ≡ true) ⊎ (isOpening l ≡ false) → (ps : List (List (List ℕ))) → 1 ≤ length ps
+        → length (cond (isOpening l) ([] ∷ ps) (toFirst l ps)) ≡ 1
+        → (length ps ≡ 1 → before (λ k. not (isListLine n k)) ls ≡ before (λ k. not (isEvent n k)) ls)
+        → before (λ k. not (isListLine n k)) (l ∷ ls) ≡ before (λ k. not (isEvent n k)) (l ∷ ls)
+    go (inl e) ps s k r = absurd (let z : suc (length ps) ≡ 1 = rw e at k in omega arith)
+    go (inr e) [] s k r = absurd (omega arith)
+    go (inr e) (p ∷ ps) s k r = let z : suc (length ps) ≡ 1 = rw e at k in rw (e, r z)
+
+bad-alike : (n : ℕ) (part : List ℕ) → length (partedLines (lines part)) ≡ 1 → badLine (isListLine n) part ≡ badLine (isEvent n) part
+unfolding badLine goodLines
+bad-alike n part h = rw (lines-alike n (lines part) h)
+
+pub same-line : (n : ℕ) (input : List ℕ) → length (listLines input) ≤ 1 → raggedLine (isListLine n) input ≡ raggedLine (isEvent n) input
+unfolding raggedLine eventPart
+same-line n input few = go (passed-or-failed (hasEvents input))
+  where
+    go : (hasEvents input ≡ true) ⊎ (hasEvents input ≡ false) → raggedLine (isListLine n) input ≡ raggedLine (isEvent n) input
+    go (inr h) = rw h
+    go (inl h) =
+        let part = drop (tableEnd input + 7) input in
+        let lists = lists-first input ∙ opening-lists input (tableEnd input) (inside input h) (line-is input h) in
+        let one : length (partedLines (lines part)) ≡ 1 = omega (arith, ap length lists, parted-some (lines part)) in
+        rw (bad-alike n part one)

@@ -2,7 +2,7 @@
 use mathlib.Core.Path.{_≡_, refl, sym, ap, ap₂, _∙_}
 use mathlib.Core.Option.{Option, none, some}
 use mathlib.Core.List.{List, [], _∷_, _++_, Memᴰ·append-left, List·Memᴰ·head as here}
-use Prim.Native.Nat.{ℕ}
+use Prim.Native.Nat.{ℕ, _<_}
 use lib.IntN.{ℤ, pos}
 use lib.ListN.{length, replicate, length-replicate}
 use Rattle.plans.specs.Indices.{howMany}
@@ -11,7 +11,7 @@ use Rattle.counter.specs.declared.Tally.{Tally}
 use Rattle.counter.specs.Counting.{eventAt, takenAt, spoiltAt, Counting, countOf}
 use Rattle.tallies.specs.Sums.{total}
 use Rattle.gates.specs.Gate.{Name, Region, regions}
-use Rattle.tables.specs.Table.{_∈_, names, numberOf, parentNames, operandNames, sumOf}
+use Rattle.tables.specs.Table.{_∈_, names, numberOf, parentNames, operandNames, sumOf, nthRegion}
 use Rattle.tables.specs.Head.{dimensions, gates, LineOrder, reordered}
 use Rattle.tables.specs.Members.{member}
 use Rattle.tables.specs.Refusals.{tableVerdict}
@@ -23,7 +23,7 @@ use Rattle.tables.proofs.GateLaws.{orderly}
 use Rattle.tables.proofs.Acceptance.{accepted-passed}
 use Rattle.tables.proofs.OrderedAgain.{OrderedAgain, ordered-again}
 use Rattle.tables.proofs.Demand.{demand-3}
-use Rattle.sheet.specs.Sheet.{listed, countIn, regionNumbers, listTallies}
+use Rattle.sheet.specs.Sheet.{withSum, countIn, regionNumbers, listTallies}
 use Rattle.sheet.proofs.ListLaws.{Complete, taken-adds, spoilt-adds, count-adds, Known, allListed, number-summed, number-listed}
 
 -- ---- by the table's own lines
@@ -103,10 +103,12 @@ module _ (text : List ℕ) (accepted : tableVerdict 4096 text ≡ passed) (ks : 
 pub record NumbersBy (text again : List ℕ) (lists : List (List ℤ)) : Type 0 where
   pub compiles : tableVerdict 4096 again ≡ passed
   pub same-n : length (dimensions again) ≡ length (dimensions text)
+  pub found : (r : Region) → r ∈ regions (gates text)
+      → (numberOf (regions (gates again)) (r .name) < 64) × (nthRegion (regions (gates again)) (numberOf (regions (gates again)) (r .name)) ≡ r)
   pub region-listed : (r : Region) → r ∈ regions (gates text)
       → regionNumbers again (listTallies again lists) (numberOf (regions (gates again)) (r .name)) ≡ regionBy text lists r
-  pub taken-listed : listed (λ t. t .taken) (listTallies again lists) ≡ allListed (takenIn text) lists
-  pub spoilt-listed : listed (λ t. t .spoilt) (listTallies again lists) ≡ allListed (spoiltIn text) lists
+  pub taken-listed : withSum (λ t. t .taken) (listTallies again lists) ≡ allListed (takenIn text) lists
+  pub spoilt-listed : withSum (λ t. t .spoilt) (listTallies again lists) ≡ allListed (spoiltIn text) lists
 
 pub numbers-by : (text : List ℕ) → tableVerdict 4096 text ≡ passed → (ks : List (List ℕ)) → LineOrder text ks → (again : List ℕ) → again ≡ reordered text ks
     → (lists : List (List ℤ)) → Complete (length (dimensions text)) lists → NumbersBy text again lists
@@ -117,6 +119,7 @@ numbers-by text accepted ks order again e lists complete =
     record {
       compiles = accepted-passed 4096 again (ordered .second);
       same-n = ordered .same-n;
+      found = ordered .found;
       region-listed = region-is text accepted ks order again e lists complete slice room;
       taken-listed = number-listed (taken-known text accepted ks order again e lists complete slice room);
       spoilt-listed = number-listed (spoilt-known text accepted ks order again e lists complete slice room);

@@ -1,25 +1,27 @@
 -- What a sheet means to a reader: its events are those of its lists, its sums are those of one count over the joined lists, with one list it is what
 -- `gatecount` prints, and the order of the table's lines moves no number.
 use mathlib.Core.Path.{_≡_, refl, sym, ap, ap₂, _∙_}
+use mathlib.Core.Bool.{false}
 use mathlib.Core.Logic.{⊎-elim}
 use mathlib.Core.List.{List, [], _∷_, _++_, flatMap, append-assoc, append-nil, Permᴰ·refl}
 use mathlib.Core.List.{List·Memᴰ·head as here, List·Memᴰ·tail as there, List·Memᴰ·cases-cons, List·Memᴰ·not-nil}
-use Prim.Native.Nat.{ℕ, _+_, _*_, _/_, _%_, _≤_}
+use Prim.Native.Nat.{ℕ, _+_, _*_, _/_, _%_, _≤_, _<_}
 use native.Mathlib.Omega.{arith}
 use native.Mathlib.Nat.{zero-mul, add-mul, div-add-mod', mul-div-cancel, mul-mod-left}
+use lib.Dec.{eqb}
 use lib.IntN.{ℤ}
 use lib.ListN.{length, take, length-append}
-use borrow.Author.Tests.{le-ltb}
+use borrow.Author.Tests.{lt-ltb, le-ltb}
 use Rattle.plans.specs.Refusals.{passed}
 use Rattle.plans.specs.Form.{width}
 use Rattle.text.specs.Bytes.{bytes, every}
 use Rattle.counter.specs.declared.Tally.{Tally}
-use Rattle.counter.specs.Counting.{tallyOf, countOf}
+use Rattle.counter.specs.Counting.{Counting, tallyOf, countOf}
 use Rattle.counter.proofs.CounterTheorems.{counts-all, taken-and-spoilt}
 use Rattle.tallies.specs.Sums.{total}
 use Rattle.tallies.proofs.SumTheorems.{count-all}
 use Rattle.gates.specs.Gate.{Region, regions}
-use Rattle.tables.specs.Table.{_∈_, numberOf, sumOf}
+use Rattle.tables.specs.Table.{_∈_, numberOf, sumOf, nthRegion}
 use Rattle.tables.specs.Head.{dimensions, gateLines, gates, LineOrder, reordered}
 use Rattle.tables.specs.Refusals.{tableVerdict}
 use Rattle.tables.specs.Compile.{planOf}
@@ -28,16 +30,17 @@ use Rattle.tables.proofs.SumLaws.{sum-same, sum-add}
 use Rattle.tables.proofs.Acceptance.{passed-accepted}
 use Rattle.tables.proofs.ReorderLaws.{own-order}
 use Rattle.tables.proofs.CompileLaws.{plan-passes}
-use Rattle.tables.proofs.CountLaws.{plan-width}
+use Rattle.tables.proofs.CountLaws.{plan-width, counted}
 use Rattle.events.specs.Parting.{tablePart}
 use Rattle.events.specs.Listing.{isEvent, isListLine, raggedLine, lineValues, listLines, valueLists}
 use Rattle.events.specs.Printing.{numbersLine, countLine, takenLine, spoiltLine}
 use Rattle.events.proofs.EventTheorems.{lines-values}
+use Rattle.events.proofs.AnswerLaws.{events-bad}
 use Rattle.events.proofs.ListsLaws.{lists-good}
-use Rattle.report.specs.Report.{regionLines, countNumbers, tallyLines, reportOf}
+use Rattle.report.specs.Report.{regionLines, countNumbers, tallyLines, printed, reportOf}
 use Rattle.report.proofs.ReportTheorems.{report-tally}
-use Rattle.sheet.specs.Sheet.{listed, regionNumbers, Summary, summaries, eventTotal, listTallies, sheetLines, sheetPrinted, sheetOf}
-use Rattle.sheet.proofs.ListLaws.{Complete, sum-map, taken-adds, spoilt-adds, one-events}
+use Rattle.sheet.specs.Sheet.{withSum, regionNumbers, Summary, summaries, eventTotal, listTallies, sheetLines, sheetPrinted, sheetOf}
+use Rattle.sheet.proofs.ListLaws.{Complete, sum-map, taken-adds, spoilt-adds, one-events, same-line}
 use Rattle.sheet.proofs.OrderLaws.{NumbersBy, numbers-by}
 
 -- ---- the lists of an input without a bad line
@@ -86,6 +89,12 @@ module _ (table : List ℕ) (accepted : tableVerdict 4096 table ≡ passed) (lis
       let tallies = listTallies table lists in
       total-by-list ∙ sum-add (λ (t : Tally). t .taken) (λ (t : Tally). t .spoilt) tallies ∙ sym (ap₂ _+_ (taken-adds tallies) (spoilt-adds tallies))
 
+  -- no count of a list is refused
+  pub each-counted : (values : List ℤ) → values ∈ lists → countOf (planOf table) values .verdict ≡ passed
+  each-counted values m =
+      let passes = plan-passes 4096 table (passed-accepted 4096 table accepted) in
+      ap (λ (c : Counting). c .verdict) (counted (planOf table) values passes (rw (is-width table) (complete values m)))
+
 -- ---- the sums are those of one count over the joined lists
 
 module _ (n : ℕ) where
@@ -109,13 +118,45 @@ pub sums-joined : (table : List ℕ) (lists : List (List ℤ)) → Complete (len
 unfolding listTallies
 sums-joined table lists c = sym (count-all (planOf table) lists (λ vs m. rw (is-width table) (c vs m)))
 
+-- which is not refused
+pub joined-counted : (table : List ℕ) → tableVerdict 4096 table ≡ passed → (lists : List (List ℤ)) → Complete (length (dimensions table)) lists
+    → countOf (planOf table) (flatMap (λ vs. vs) lists) .verdict ≡ passed
+joined-counted table accepted lists c =
+    let n = length (dimensions table) in
+    let whole : length (flatMap (λ vs. vs) lists) % n ≡ 0 = rw (joined-length n lists c) (mul-mod-left (eventTotal n lists) n) in
+    let passes = plan-passes 4096 table (passed-accepted 4096 table accepted) in
+    ap (λ (k : Counting). k .verdict) (counted (planOf table) (flatMap (λ vs. vs) lists) passes (rw (is-width table) whole))
+
+-- ---- refusals
+
+module _ (input : List ℕ) where
+  -- too long an input, or a refused table: `gatesheet` prints what `gatecount` prints
+  pub long-alike : 65536 < length input → sheetOf input ≡ reportOf input
+  unfolding sheetOf reportOf
+  long-alike h = rw (lt-ltb 65536 (length input) h)
+
+  pub table-alike : length input ≤ 65536 → eqb (tableVerdict 4096 (tablePart input) .number) 0 ≡ false → sheetOf input ≡ reportOf input
+  unfolding sheetOf reportOf sheetPrinted printed
+  table-alike h z = rw (le-ltb 65536 (length input) h, z)
+
+  -- and so it does where a line behind the table is bad and there is no further `events`
+  pub ragged-alike : length input ≤ 65536 → tableVerdict 4096 (tablePart input) ≡ passed → length (listLines input) ≤ 1
+      → 0 < raggedLine (isListLine (length (dimensions (tablePart input)))) input → sheetOf input ≡ reportOf input
+  unfolding sheetOf reportOf sheetPrinted printed
+  ragged-alike h accepted few bad =
+      let n = length (dimensions (tablePart input)) in
+      let same = same-line n input few in
+      let line = raggedLine (isEvent n) input in
+      let there : 0 < line = omega (arith, same) in
+      rw (le-ltb 65536 (length input) h, accepted, same, lt-ltb 0 line there, events-bad n input there)
+
 -- ---- one list
 
 -- the lines of the regions, then `taken`, `spoilt`, each with those of its numbers that are chosen
 abbrev pub linesWith : (List ℕ → List ℕ) → List ℕ → List Tally → List ℕ
 linesWith chosen table tallies =
     regionLines (regions (gates table)) (λ r. chosen (regionNumbers table tallies r)) (length (regions (gates table)))
-    ++ flatMap (λ (s : Summary). numbersLine (s .name) (chosen (listed (s .number) tallies))) summaries
+    ++ flatMap (λ (s : Summary). numbersLine (s .name) (chosen (withSum (s .number) tallies))) summaries
 
 -- a sheet has these lines with all their numbers, then the line `events`
 pub sheet-is : (table : List ℕ) (lists : List (List ℤ))
@@ -169,12 +210,15 @@ module _ (input : List ℕ) (short : length input ≤ 65536) (accepted : tableVe
 pub record OrderFree (text again : List ℕ) (lists : List (List ℤ)) : Type 0 where
   -- it is accepted too
   pub compiles : tableVerdict 4096 again ≡ passed
-  -- each region has, by its name, the same numbers: of each list, their sum and the share
+  -- each region is found by its name, at one of the 64 numbers
+  pub found : (r : Region) → r ∈ regions (gates text)
+      → (numberOf (regions (gates again)) (r .name) < 64) × (nthRegion (regions (gates again)) (numberOf (regions (gates again)) (r .name)) ≡ r)
+  -- and has there the same numbers: of each list, their sum and the share
   pub by-name : (r : Region) → r ∈ regions (gates text)
       → regionNumbers again (listTallies again lists) (numberOf (regions (gates again)) (r .name))
       ≡ regionNumbers text (listTallies text lists) (numberOf (regions (gates text)) (r .name))
   -- and so have `taken` and `spoilt`
-  pub summed : (s : Summary) → s ∈ summaries → listed (s .number) (listTallies again lists) ≡ listed (s .number) (listTallies text lists)
+  pub summed : (s : Summary) → s ∈ summaries → withSum (s .number) (listTallies again lists) ≡ withSum (s .number) (listTallies text lists)
   -- the total of all events is the same
   pub same-events : eventTotal (length (dimensions again)) lists ≡ eventTotal (length (dimensions text)) lists
 
@@ -189,7 +233,7 @@ module _ (text : List ℕ) (accepted : tableVerdict 4096 text ≡ passed) (ks : 
       let own = sym (own-order 4096 text (passed-accepted 4096 text accepted) ks order) in
       numbers-by text accepted (gateLines text) (Permᴰ·refl (gateLines text)) text own lists complete
 
-  same-summary : (s : Summary) → s ∈ summaries → listed (s .number) (listTallies again lists) ≡ listed (s .number) (listTallies text lists)
+  same-summary : (s : Summary) → s ∈ summaries → withSum (s .number) (listTallies again lists) ≡ withSum (s .number) (listTallies text lists)
   same-summary s m =
       ⊎-elim (λ i. rw i (numbers-again .taken-listed ∙ sym (numbers-own .taken-listed)))
       (λ k. ⊎-elim (λ i. rw i (numbers-again .spoilt-listed ∙ sym (numbers-own .spoilt-listed))) (λ l. absurd (List·Memᴰ·not-nil l)) (List·Memᴰ·cases-cons k))
@@ -199,6 +243,7 @@ module _ (text : List ℕ) (accepted : tableVerdict 4096 text ≡ passed) (ks : 
   pub order-free : OrderFree text again lists
   order-free = record {
     compiles = numbers-again .compiles;
+    found = numbers-again .found;
     by-name = λ r m. numbers-again .region-listed r m ∙ sym (numbers-own .region-listed r m);
     summed = same-summary;
     same-events = ap (λ (n : ℕ). eventTotal n lists) (numbers-again .same-n);

@@ -25,8 +25,8 @@ use Rattle.report.specs.Report.{regionLines}
 -- ---- numbers
 
 -- a number of each list's tally, and of their sum
-abbrev pub listed : (Tally → ℕ) → List Tally → List ℕ
-listed number tallies = map number tallies ++ (number (total tallies) ∷ [])
+abbrev pub withSum : (Tally → ℕ) → List Tally → List ℕ
+withSum number tallies = map number tallies ++ (number (total tallies) ∷ [])
 
 abbrev pub countIn : ℕ → Tally → ℕ
 countIn r t = getD (t .counts) r 0
@@ -36,7 +36,7 @@ abbrev pub share : List ℕ → Tally → ℕ → List ℕ
 share table t r = countIn r t ∷ countOfParent table t (nthRegion (regions (gates table)) r .parent) ∷ []
 
 unfoldable pub regionNumbers : List ℕ → List Tally → ℕ → List ℕ
-regionNumbers table tallies r = listed (countIn r) tallies ++ share table (total tallies) r
+regionNumbers table tallies r = withSum (countIn r) tallies ++ share table (total tallies) r
 
 -- ---- the lines that follow the regions
 
@@ -52,7 +52,7 @@ summaries =
     ∷ []
 
 abbrev pub summaryLine : List Tally → Summary → List ℕ
-summaryLine tallies s = numbersLine (s .name) (listed (s .number) tallies)
+summaryLine tallies s = numbersLine (s .name) (withSum (s .number) tallies)
 
 -- the number of events that lists of values hold, n for each event
 unfoldable pub eventTotal : ℕ → List (List ℤ) → ℕ

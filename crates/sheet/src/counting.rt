@@ -5,10 +5,11 @@ ghost use lib.ListN.{length, set};
 ghost use Rattle.text.specs.Output.{Writes};
 ghost use Rattle.text.specs.Inner.Writing.{WritesFrom};
 ghost use Rattle.counter.specs.Counting.{countOf};
+ghost use Rattle.tallies.specs.Inner.Bounds.{Within};
 ghost use Rattle.events.specs.Parting.{tableEnd};
 ghost use Rattle.events.specs.Listing.{values};
 ghost use Rattle.sheet.specs.Inner.Columns.{numbersOf};
-ghost use Rattle.sheet.specs.Inner.Counts.{SomeEvents, SomeLists, AtMost, CountedLists};
+ghost use Rattle.sheet.specs.Inner.Counts.{SomeEvents, SomeLists, CountedLists};
 use counter::Tally;
 use counter::counting::count;
 use counter::no_tally;
@@ -35,7 +36,7 @@ fn put_at(numbers: &mut [u32], i: usize, x: u32)
 
 // Writes the numbers of a tally over the beginning of rest, as far as it goes, and answers how many there are.
 fn put_numbers(rest: &mut [u32], tally: Tally) -> usize
-    requires { ⌜ AtMost 32768 tally ⌝ }
+    requires { ⌜ Within 32768 tally ⌝ }
     ensures { λ r. ⌜ Writes (numbersOf tally) (now (rest .entry)) (now (rest .exit)) r ⌝ }
 {
     let mut r = 0;
@@ -50,7 +51,7 @@ fn put_numbers(rest: &mut [u32], tally: Tally) -> usize
 
 // The same from index a on.
 fn put_numbers_from(columns: &mut [u32], a: usize, tally: Tally) -> usize
-    requires { ⌜ AtMost 32768 tally ⌝ }
+    requires { ⌜ Within 32768 tally ⌝ }
     ensures { λ r. ⌜ WritesFrom a (numbersOf tally) (now (columns .entry)) (now (columns .exit)) r ⌝ }
 {
     let b = lesser(a, columns.len());
@@ -60,7 +61,7 @@ fn put_numbers_from(columns: &mut [u32], a: usize, tally: Tally) -> usize
 // The tally of the events of a text, with room for their values.
 fn count_list(part: &[u8], plan: &[i32], list: &mut [i32]) -> Tally
     requires { ⌜ (length (now part) ≤ 65535) × (length (now list) ≡ 32768) × SomeEvents (now part) ⌝ }
-    ensures { λ r. ⌜ (r ≡ countOf (now (plan .entry)) (values (now (part .entry))) .tally) × AtMost 32768 r × (length (now (list .exit)) ≡ 32768) ⌝ }
+    ensures { λ r. ⌜ (r ≡ countOf (now (plan .entry)) (values (now (part .entry))) .tally) × Within 32768 r × (length (now (list .exit)) ≡ 32768) ⌝ }
 {
     let m = put_lines(list, part);
     let counted = count(plan, &list[..m]);

@@ -5,6 +5,7 @@ ghost use Prim.Native.Nat.{_+_, _*_, _<_, _≤_};
 ghost use lib.ListN.{length, getD};
 ghost use Rattle.text.specs.Output.{Writes};
 ghost use Rattle.text.specs.Inner.Writing.{WritesFrom};
+ghost use Rattle.tallies.specs.Inner.Bounds.{Within};
 ghost use Rattle.gates.specs.Gate.{regions};
 ghost use Rattle.tables.specs.Head.{gates};
 ghost use Rattle.tables.specs.Refusals.{tableVerdict};
@@ -13,7 +14,6 @@ ghost use Rattle.events.specs.Printing.{numberField, numbersLine};
 ghost use Rattle.report.specs.Report.{regionLines};
 ghost use Rattle.report.specs.Inner.Short.{Printable};
 ghost use Rattle.sheet.specs.Inner.Columns.{columnOf};
-ghost use Rattle.sheet.specs.Inner.Counts.{AtMost};
 ghost use Rattle.sheet.specs.Inner.Numbers.{countBy, numbersBy, summariesBy, linesBy, Placed};
 use counter::Tally;
 use events::printing::put_bytes_from;
@@ -172,7 +172,7 @@ pub fn put_sheet(
     k: usize,
     total: Tally,
 ) -> usize
-    requires { ⌜ (tableVerdict 4096 (now text) .number ≡ 0) × (m ≡ length (regions (gates (now text)))) × (k ≤ 9362) × AtMost 1000000000 total ⌝ }
+    requires { ⌜ (tableVerdict 4096 (now text) .number ≡ 0) × (m ≡ length (regions (gates (now text)))) × (k ≤ 9362) × Within 1000000000 total ⌝ }
     ensures { λ x. ⌜ Writes (linesBy (now (text .entry)) (now (columns .entry)) k total) (now (out .entry)) (now (out .exit)) x ⌝ }
 {
     let starts = starts_of(text);

@@ -10,6 +10,7 @@ use lib.Seq.{ext-getD}
 use Rattle.counter.specs.Counting.{noTally}
 use Rattle.counter.specs.declared.Tally.{Tally}
 use Rattle.counter.proofs.TableLaws.{length-table, getD-table}
+use Rattle.tallies.specs.Inner.Bounds.{Within}
 use Rattle.tallies.specs.Sums.{together, total, wrapped}
 
 -- ---- tallies with the same numbers
@@ -83,12 +84,6 @@ total-more [] t = together-comm t noTally
 total-more (u ∷ ts) t = ap (together u) (total-more ts t) ∙ sym (together-assoc u (total ts) t)
 
 -- ---- tallies of 64 counts whose numbers are at most e
-
-pub record Within (e : ℕ) (t : Tally) : Type 0 where
-  pub taken-most : t .taken ≤ e
-  pub spoilt-most : t .spoilt ≤ e
-  pub count-most : (r : ℕ) → getD (t .counts) r 0 ≤ e
-  pub long : length (t .counts) ≡ 64
 
 -- it is enough to look at the 64 counts
 pub within-64 : {e : ℕ} {t : Tally} → t .taken ≤ e → t .spoilt ≤ e → length (t .counts) ≡ 64

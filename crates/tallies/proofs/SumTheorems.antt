@@ -18,7 +18,8 @@ use Rattle.counter.proofs.TableLaws.{getD-table}
 use Rattle.counter.proofs.TallyLaws.{counts-long, tally-none}
 use Rattle.counter.proofs.CounterTheorems.{counts-all}
 use Rattle.tallies.specs.Sums.{together, total}
-use Rattle.tallies.proofs.SumLaws.{none-long, together-none-left, Within, within-64, within-none, within-more}
+use Rattle.tallies.specs.Inner.Bounds.{Within}
+use Rattle.tallies.proofs.SumLaws.{none-long, together-none-left, within-64, within-none, within-more}
 use Rattle.tallies.proofs.JoinLaws.{joined-whole, joined-listed, tally-joined}
 
 -- ---- every plan passes or is refused

@@ -8,7 +8,7 @@ use Rattle.plans.specs.Refusals.{Verdict}
 use Rattle.compiler.proofs.PlanLaws.{dims-read}
 use Rattle.events.specs.Listing.{isListLine, raggedLine, valueLists}
 use Rattle.events.proofs.ListsLaws.{lists-few, part-is-table}
-use Rattle.sheet.proofs.CountLaws.{most-more}
+use Rattle.tallies.proofs.SumLaws.{within-more}
 use Rattle.sheet.specs.Inner.Counts.{CountedLists}
 use Rattle.sheet.proofs.InputLaws.{written-accepted, written-regions, written-inside, written-plan, refused-printed, input-printed, ragged-printed}
 use Rattle.sheet.proofs.InputLaws.{lists-printed}
@@ -37,10 +37,10 @@ returns c =
     let t = part-is-table i (parts .split .ensures .0) in
     let n = dims-read b (head .head-line .ensures) (names .name-count .ensures) in
     let accepted = written-accepted b (args .plan .now) _ (entry .pre .1) (compiled .compile .ensures) (told .compiled2 .given .1) in
-    rw (
+    let printed =
     ragged-printed i b (entry .pre .0) (t .0) accepted (ragged .ragged-line .result) (test .if1 .taken)
-    ∙ input-printed i b (entry .pre .0) (t .0) n (ragged .ragged-line .ensures)
-    ) at (put .put-refused2 .ensures)
+    ∙ input-printed i b (entry .pre .0) (t .0) n (ragged .ragged-line .ensures) in
+    rw (sym printed) (put .put-refused2 .ensures)
 
 slice-reshare-prefix-count-lists : tie.Need-slice-reshare-prefix-count-lists
 slice-reshare-prefix-count-lists c =
@@ -108,7 +108,7 @@ put-sheet-requires c κs =
       ap (λ (v : Verdict). v .number) accepted,
       written-regions b (args .plan .now) _ (entry .pre .1) (compiled .compile .ensures) (told .compiled2 .given .1),
       omega (arith, w .lists-are, lists-few i, entry .pre .0),
-      most-more (w .total-most),
+      within-more (omega arith) (w .total-most),
     )
 
 returns-2 : tie.Need-returns-2
@@ -128,11 +128,11 @@ returns-2 c =
     let b = take (parts .split .result .table) i in
     let t = part-is-table i (parts .split .ensures .0) in
     let n = dims-read b (head .head-line .ensures) (names .name-count .ensures) in
-    rw (
+    let printed =
     refused-printed b (args .plan .now) _ (entry .pre .1) (compiled .compile .ensures) (told .compiled .given .1) (ragged .ragged-line .result) (valueLists i)
     (number .number-of .result) (place .place-of .result) (number .number-of .ensures) (place .place-of .ensures)
-    ∙ input-printed i b (entry .pre .0) (t .0) n (ragged .ragged-line .ensures)
-    ) at (put .put-refused .ensures)
+    ∙ input-printed i b (entry .pre .0) (t .0) n (ragged .ragged-line .ensures) in
+    rw (sym printed) (put .put-refused .ensures)
 
 returns-3 : tie.Need-returns-3
 returns-3 c =
@@ -153,11 +153,11 @@ returns-3 c =
     let n = dims-read b (head .head-line .ensures) (names .name-count .ensures) in
     let accepted = written-accepted b (args .plan .now) _ (entry .pre .1) (compiled .compile .ensures) (told .compiled2 .given .1) in
     let plan = written-plan b (args .plan .now) _ (entry .pre .1) (compiled .compile .ensures) (told .compiled2 .given .1) in
-    rw (
+    let printed =
     lists-printed i b (entry .pre .0) (t .0) accepted (ragged .ragged-line .result) (test .if1 .left) n (ragged .ragged-line .ensures)
     (args .columns .now) _ (entry .pre .3) (counted .count-lists .result) (rw plan at (counted .count-lists .ensures))
-    ∙ input-printed i b (entry .pre .0) (t .0) n (ragged .ragged-line .ensures)
-    ) at (put .put-sheet .ensures)
+    ∙ input-printed i b (entry .pre .0) (t .0) n (ragged .ragged-line .ensures) in
+    rw (sym printed) (put .put-sheet .ensures)
 
 pub put-input-spec : {M : Type 1} → statement M
 put-input-spec =

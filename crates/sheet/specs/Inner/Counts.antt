@@ -1,16 +1,17 @@
 -- Counting the lists of an input.
 use mathlib.Core.Path.{_≡_}
-use Prim.Native.Nat.{ℕ, _≤_}
+use Prim.Native.Nat.{ℕ}
 use mathlib.Core.Bool.{true}
 use mathlib.Core.List.{List, map, flatMap}
 use lib.IntN.{ℤ}
-use lib.ListN.{length, getD}
+use lib.ListN.{length}
 use Rattle.text.specs.Bytes.{every}
 use Rattle.text.specs.Lines.{lines}
 use Rattle.text.specs.Output.{over}
 use Rattle.counter.specs.declared.Tally.{Tally}
 use Rattle.counter.specs.Counting.{countOf}
 use Rattle.tallies.specs.Sums.{total}
+use Rattle.tallies.specs.Inner.Bounds.{Within}
 use Rattle.events.specs.Parting.{tableEnd}
 use Rattle.events.specs.Listing.{isEvent, isListLine, raggedLine, lineValues, listLines}
 use Rattle.sheet.specs.Inner.Columns.{numbersOf}
@@ -24,13 +25,6 @@ SomeEvents part = (n : ℕ) × (every (isEvent n) (lines part) ≡ true)
 abbrev pub SomeLists : List ℕ → Type 0
 SomeLists input = (n : ℕ) × (raggedLine (isListLine n) input ≡ 0)
 
--- no number of a tally is more than so many
-pub record AtMost (most : ℕ) (t : Tally) : Type 0 where
-  pub taken-most : t .taken ≤ most
-  pub spoilt-most : t .spoilt ≤ most
-  pub count-most : (r : ℕ) → getD (t .counts) r 0 ≤ most
-  pub long : length (t .counts) ≡ 64
-
 -- the tallies of lists by a plan
 unfoldable pub talliesOf : List ℤ → List (List (List ℕ)) → List Tally
 talliesOf p lists = map (λ (ls : List (List ℕ)). countOf p (flatMap lineValues ls) .tally) lists
@@ -39,5 +33,5 @@ talliesOf p lists = map (λ (ls : List (List ℕ)). countOf p (flatMap lineValue
 pub record CountedLists (p : List ℤ) (input d : List ℕ) (c : Counts) (after : List ℕ) : Type 0 where
   pub lists-are : c .lists ≡ length (listLines input)
   pub total-is : c .total ≡ total (talliesOf p (listLines input))
-  pub total-most : AtMost 306774016 (c .total)
+  pub total-most : Within 306774016 (c .total)
   pub written : after ≡ over (flatMap numbersOf (talliesOf p (listLines input))) d
