@@ -1,4 +1,4 @@
--- What `gatesheet` prints (request e: "a line per region in table order: name, the count from each list and the sum; then `taken` and `spoilt` laid out
+-- What `gatesheet` prints (02: "a line per region in table order: name, the count from each list and the sum; then `taken` and `spoilt` laid out
 -- alike, and so are lines that come in later"; "Shares of the parent stand after a region's sum as two whole numbers over all lists, count and parent's
 -- count (without a parent, the taken), never divided"; "The last line is `events` and the total of all events").
 use Prim.Native.Nat.{ℕ, _/_}
