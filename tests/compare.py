@@ -2,7 +2,7 @@
 """Compares a real gate counter with the reference, which was written apart from it.
 
     tests/compare.py --gatecount PATH [--plans PATH] [--questions WORDS] [--seed S] [--inputs N] [--keep FOLDER]
-    tests/compare.py --gatesheet PATH ...   the sheet of several lists, by itself or with the others
+    tests/compare.py --gatesheet PATH ...   the sheet of several lists, by itself or with the others; --joined PATH: the gatecount of the joined lists alone
     tests/compare.py --plant FAULT ...      with a fault planted in the reference
     tests/compare.py --mutations ...        each planted fault in turn: all must be seen
     tests/compare.py --mutations walk- ...  those whose names begin so
@@ -22,7 +22,7 @@ What is compared:
   at --gatesheet: its standard output must be the reference's, byte for byte.  Where it is
   accepted, what the real program prints must add up by itself (sums, shares, quadrants, and
   the last line against taken, spoilt and the lines of the lists), its sums must be what
-  `gatecount` prints for the joined lists (that of --gatecount, else the reference's), and
+  `gatecount` prints for the joined lists (that of --joined or --gatecount, else the reference's), and
   for some tables each line must have the same numbers under its name whatever the order of
   the gate lines.
 * Each of N generated questions goes to the executable at --plans, and its answer must
@@ -383,7 +383,8 @@ class Comparison:
         self.sheets['added up'] += 1
         self.note(sheet_adds_up(data, actual), 'sums of ' + what, data, expected, actual)
         joined = joined_lists(data)
-        counted = run(self.options.gatecount, joined) if self.options.gatecount else self.reference(gates.gatecount, joined)
+        program = self.options.joined or self.options.gatecount
+        counted = run(program, joined) if program else self.reference(gates.gatecount, joined)
         sums = printed_sums(actual)
         self.sheets['joined'] += 1
         self.note(sums is not None and sums == printed_counts(counted), 'joined lists of ' + what, joined, counted, actual)
@@ -514,23 +515,13 @@ def mutations(options):
     def differing(limit):
         """The first few differences, as words."""
         found = []
-        for number, (given, actual) in enumerate(inputs):
-            if gates.gatecount(given) != actual:
-                found.append('input %d' % number)
-                if len(found) == limit:
-                    break
-        enough = len(found) + limit
-        for number, (given, actual) in enumerate(sheets):
-            if gates.gatesheet(given) != actual:
-                found.append('sheet %d' % number)
-                if len(found) == enough:
-                    break
-        enough = len(found) + limit
-        for number, (question, actual) in enumerate(questions):
-            if reference_answer(question) != actual:
-                found.append('question %d' % number)
-                if len(found) == enough:
-                    break
+        for what, answered, reference in (('input', inputs, gates.gatecount), ('sheet', sheets, gates.gatesheet), ('question', questions, reference_answer)):
+            enough = len(found) + limit
+            for number, (given, actual) in enumerate(answered):
+                if reference(given) != actual:
+                    found.append('%s %d' % (what, number))
+                    if len(found) == enough:
+                        break
         return found
 
     plain = differing(3)
@@ -553,6 +544,7 @@ def main():
     parser = argparse.ArgumentParser(description='Compare a gate counter with the reference.')
     parser.add_argument('--gatecount', type=command, metavar='PATH')
     parser.add_argument('--gatesheet', type=command, metavar='PATH')
+    parser.add_argument('--joined', type=command, metavar='PATH', help='the gatecount that counts the joined lists of --gatesheet, and nothing else')
     parser.add_argument('--plans', type=command, metavar='PATH')
     parser.add_argument('--questions', type=lambda words: words.split(','), metavar='WORDS',
                         default=['check', 'judge', 'count', 'compile'], help='which of check,judge,count,compile are asked')

@@ -2199,12 +2199,14 @@ _WEIGHTS = [weight for weight, _ in FAMILIES]
 _MAKERS = [maker for _, maker in FAMILIES]
 
 
+def made(rng, number, first, makers, weights):
+    """What the maker of this number makes: the fixed ones come first, then any by their weights."""
+    return (first[number] if number < len(first) else rng.choices(makers, weights)[0])(rng)
+
+
 def case(seed, number):
     """The standard input with this number of the run with this seed."""
-    rng = random.Random('%s input %d' % (seed, number))
-    if number < len(FIRST):
-        return FIRST[number](rng)
-    return rng.choices(_MAKERS, _WEIGHTS)[0](rng)
+    return made(random.Random('%s input %d' % (seed, number)), number, FIRST, _MAKERS, _WEIGHTS)
 
 
 def judged(seed, number):
@@ -2515,10 +2517,7 @@ _SHEET_MAKERS = [maker for _, maker in SHEETS]
 
 def sheet(seed, number):
     """The standard input of `gatesheet` with this number of the run with this seed."""
-    rng = random.Random('%s sheet %d' % (seed, number))
-    if number < len(FIRST_SHEETS):
-        return FIRST_SHEETS[number](rng)
-    return rng.choices(_SHEET_MAKERS, _SHEET_WEIGHTS)[0](rng)
+    return made(random.Random('%s sheet %d' % (seed, number)), number, FIRST_SHEETS, _SHEET_MAKERS, _SHEET_WEIGHTS)
 
 
 # ---------------------------------------------------------------- plans
