@@ -259,7 +259,7 @@ def cruise():
         'quad Pigments Cells 2 RED 1 30000 ORANGE 1 16000 Pro 15000 2000 Syn 22000 30000 Large 40000 *',
         'or Cyano Cells Pro Syn',
         'rect BigSyn Syn FSC 13000 *',
-        'not Rest - Cells',
+        'rect Debris - FSC * 3000 RED * 3000',
     )
     surface = {'debris': 2, 'prochlorococcus': 4, 'synechococcus': 3, 'picoeukaryotes': 1}
     depth = {'debris': 1, 'prochlorococcus': 1, 'synechococcus': 2, 'picoeukaryotes': 2, 'cryptophytes': 1}

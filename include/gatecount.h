@@ -79,7 +79,8 @@ enum gate_out {
     GATE_OUT_TAKEN = 2,        /* gate_count: number of events taken */
     GATE_OUT_SPOILT_COUNT = 3, /* gate_count: number of events spoilt */
     GATE_OUT_COUNTS = 4,       /* gate_count: from here on the members of regions 0 to 63 */
-    GATE_COUNT_OUT = GATE_OUT_COUNTS + GATE_REGIONS
+    GATE_OUT_UNCLAIMED = 68,   /* gate_count: number of events taken that are members of no region */
+    GATE_COUNT_OUT = 69
 };
 
 /* Checks a plan: refusal (21, 22) and place. */
@@ -91,6 +92,7 @@ void gate_check(const int32_t *plan, size_t plan_len, uint64_t out[2]);
  * has numbers written past its row. Callers in other languages name the symbol itself.
  */
 #define gate_judge gate_judge_row4
+#define gate_count gate_count_row69
 
 /*
  * Judges one event: refusal (21 to 24), place, bits, outline bits. A refused judging sets no bit of either set.
@@ -102,10 +104,12 @@ void gate_check(const int32_t *plan, size_t plan_len, uint64_t out[2]);
 void gate_judge(const int32_t *plan, size_t plan_len, const int32_t *event, size_t event_len, uint64_t out[4]);
 
 /*
- * Counts a flat list of events, n values each: refusal (21 to 23), place, taken, spoilt, 64 counts.
- * Counts from the step count on are 0. In a refused count taken, spoilt and all counts are 0.
+ * Counts a flat list of events, n values each: refusal (21 to 23), place, taken, spoilt, 64 counts, unclaimed.
+ * Counts from the step count on are 0. In a refused count taken, spoilt, all counts and unclaimed are 0.
+ * Unclaimed is how many of the events taken are members of no region: all of them where the plan has no step. Spoilt
+ * events are not among them.
  */
-void gate_count(const int32_t *plan, size_t plan_len, const int32_t *events, size_t events_len, uint64_t out[68]);
+void gate_count(const int32_t *plan, size_t plan_len, const int32_t *events, size_t events_len, uint64_t out[69]);
 
 /* ---- The same by named fields ---- */
 
@@ -128,6 +132,7 @@ struct gate_tally {
     uint64_t taken;
     uint64_t spoilt;
     uint64_t counts[GATE_REGIONS];
+    uint64_t unclaimed; /* of the events taken those that are members of no region */
 };
 
 static inline struct gate_answer gate_answer_of(const uint64_t *out) {
@@ -156,7 +161,7 @@ static inline struct gate_judgement gate_judge_event(const int32_t *plan, size_t
     return judgement;
 }
 
-/* gate_count into a struct; takes 544 bytes of stack more than gate_count. */
+/* gate_count into a struct; takes 552 bytes of stack more than gate_count. */
 static inline void gate_count_events(const int32_t *plan, size_t plan_len,
                                      const int32_t *events, size_t events_len, struct gate_tally *tally) {
     uint64_t out[GATE_COUNT_OUT];
@@ -168,6 +173,7 @@ static inline void gate_count_events(const int32_t *plan, size_t plan_len,
     for (region = 0; region < GATE_REGIONS; region++) {
         tally->counts[region] = out[GATE_OUT_COUNTS + region];
     }
+    tally->unclaimed = out[GATE_OUT_UNCLAIMED];
 }
 
 /* 1 when the bits of a judgement have the region, from 0 to 63, else 0. */

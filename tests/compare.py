@@ -20,11 +20,12 @@ What is compared:
   to the count of its parent, or to the taken when it has none.
 * Each of N generated standard inputs with any number of lists goes through the executable
   at --gatesheet: its standard output must be the reference's, byte for byte.  Where it is
-  accepted, what the real program prints must add up by itself (sums, shares, quadrants, and
-  the last line against taken, spoilt and the lines of the lists), its sums must be what
-  `gatecount` prints for the joined lists (that of --joined or --gatecount, else the reference's), and
-  for some tables each line must have the same numbers under its name whatever the order of
-  the gate lines.
+  accepted, what the real program prints must add up by itself (sums, shares, quadrants, the
+  unclaimed against the taken and the regions without a parent, and the last line against taken,
+  spoilt and the lines of the lists), its sums must be what `gatecount` prints for the joined
+  lists (that of --joined or --gatecount, else the reference's) and, the unclaimed too, what it
+  prints itself for these as one list, and for some tables each line must have the same numbers
+  under its name whatever the order of the gate lines.
 * Each of N generated questions goes to the executable at --plans, and its answer must
   be the reference's, word for word; --questions picks those of some words only.
 * For some accepted tables that executable compiles the lines in several orders and judges
@@ -51,7 +52,7 @@ most 5,000 numbers, a slice at most 9,000 words and a line at most 100,000 bytes
                                        members, and members on the outline of the region's own shape
 
     count K w1 .. wK M v1 .. vM        a plan and a flat list of M values
-        -> number place taken spoilt c0 c1 .. c63
+        -> number place taken spoilt c0 c1 .. c63 unclaimed
 
     compile S HEX                      a slice of S words and the table's bytes, two lower-case
                                        hexadecimal digits each; `-` stands for an empty table
@@ -160,8 +161,8 @@ def reference_answer(question):
         number, place, bits, outline = gates.judge(question[1], question[2])
         return ('%d %d %s %s' % (number, place, written(bits), written(outline))).encode()
     if verb == 'count':
-        number, place, taken, spoilt, counts = gates.count(question[1], question[2])
-        return ' '.join(map(str, [number, place, taken, spoilt] + counts)).encode()
+        number, place, taken, spoilt, counts, unclaimed = gates.count(question[1], question[2])
+        return ' '.join(map(str, [number, place, taken, spoilt] + counts + [unclaimed])).encode()
     number, place, words, names = gates.compile_table(question[2], question[1])
     words = words or []
     return ' '.join(map(str, [number, place, len(words), len(names), 0] + words)).encode()
@@ -242,7 +243,7 @@ def quadrants_add_up(data, output):
 # ---------------------------------------------------------------- printed sheets
 
 def printed_sheet(output):
-    """(numbers by name of region, those of taken, those of spoilt, that of events) of an accepted input, or None."""
+    """(numbers by name of region, those of taken, of unclaimed, of spoilt, that of events) of an accepted input, or None."""
     if refusal(output) != 0 or output[-1:] != b'\n':
         return None
     try:
@@ -250,9 +251,23 @@ def printed_sheet(output):
         rows = [(fields[0], [int(field) for field in fields[1:]]) for fields in lines]
     except ValueError:
         return None
-    if [name for name, _ in rows[-3:]] != [b'taken', b'spoilt', b'events']:
+    if [name for name, _ in rows[-4:]] != [b'taken', b'unclaimed', b'spoilt', b'events']:
         return None
-    return dict(rows[:-3]), rows[-3][1], rows[-2][1], rows[-1][1]
+    return dict(rows[:-4]), rows[-4][1], rows[-3][1], rows[-2][1], rows[-1][1]
+
+
+def unclaimed_fit(table_gates, regions, taken, unclaimed):
+    """Whether the unclaimed of each list and over all fit the other numbers: what they leave of the taken are the members of some region.
+
+    Those are the members of the regions without a parent: at least as many as one gate has, whose quadrants share none, and at most as many
+    as all of them have. Where only one gate has no parent, and where there is no region, that leaves one number.
+    """
+    outermost = [[sum(column) for column in zip(*[regions[name][:-2] for name in gate.regions()])] for gate in table_gates if gate.parent == b'-']
+    for at, (whole, rest) in enumerate(zip(taken, unclaimed)):
+        members = [column[at] for column in outermost]
+        if not max(members, default=0) <= whole - rest <= min(whole, sum(members)):
+            return False
+    return True
 
 
 def sheet_adds_up(data, output):
@@ -260,11 +275,12 @@ def sheet_adds_up(data, output):
     printed = printed_sheet(output)
     if printed is None:
         return False
-    regions, taken, spoilt, events = printed
+    regions, taken, unclaimed, spoilt, events = printed
     lists = gates.part_lists(data)[1]
-    if any(len(row) != len(lists) + 1 or sum(row[:-1]) != row[-1] for row in [taken, spoilt] + [row[:-2] for row in regions.values()]):
+    if any(len(row) != len(lists) + 1 or sum(row[:-1]) != row[-1] for row in [taken, unclaimed, spoilt] + [row[:-2] for row in regions.values()]):
         return False
-    for gate in [gates.read_gate(fields) for fields in table_fields(data)]:
+    table_gates = [gates.read_gate(fields) for fields in table_fields(data)]
+    for gate in table_gates:
         if any(name not in regions for name in gate.regions()) or gate.parent not in (b'-', *regions):
             return False
         whole = taken if gate.parent == b'-' else regions[gate.parent][:-2]
@@ -273,6 +289,8 @@ def sheet_adds_up(data, output):
                 return False
         if gate.kind == b'quad' and [sum(column) for column in zip(*[regions[name][:-2] for name in gate.regions()])] != whole:
             return False
+    if not unclaimed_fit(table_gates, regions, taken, unclaimed):
+        return False
     columns = [one + other for one, other in zip(taken, spoilt)]
     held = [len(lines) for _, _, lines in lists]
     return columns == held + [sum(held)] and events == [sum(held)]
@@ -285,12 +303,12 @@ def joined_lists(data):
 
 
 def printed_sums(output):
-    """(sums by name of region, of taken, of spoilt) of an accepted input, or None."""
+    """(sums by name of region, of taken, of unclaimed, of spoilt) of an accepted input, or None."""
     printed = printed_sheet(output)
-    if printed is None or any(len(row) < 3 for row in printed[0].values()) or not printed[1] or not printed[2]:
+    if printed is None or any(len(row) < 3 for row in printed[0].values()) or not all(printed[1:4]):
         return None
-    regions, taken, spoilt, _ = printed
-    return {name: row[-3] for name, row in regions.items()}, taken[-1], spoilt[-1]
+    regions, taken, unclaimed, spoilt, _ = printed
+    return {name: row[-3] for name, row in regions.items()}, taken[-1], unclaimed[-1], spoilt[-1]
 
 
 # ---------------------------------------------------------------- the comparison
@@ -379,7 +397,7 @@ class Comparison:
             self.other_sheets(number, case, actual)
 
     def whole_sheet(self, what, data, expected, actual):
-        """What is printed adds up, and its sums are one count over the joined lists."""
+        """What is printed adds up, and its sums are one count over the joined lists, and those of a sheet with the joined lists as its only one."""
         self.sheets['added up'] += 1
         self.note(sheet_adds_up(data, actual), 'sums of ' + what, data, expected, actual)
         joined = joined_lists(data)
@@ -387,7 +405,12 @@ class Comparison:
         counted = run(program, joined) if program else self.reference(gates.gatecount, joined)
         sums = printed_sums(actual)
         self.sheets['joined'] += 1
-        self.note(sums is not None and sums == printed_counts(counted), 'joined lists of ' + what, joined, counted, actual)
+        # gatecount prints no unclaimed.
+        self.note(sums is not None and sums[:2] + sums[3:] == printed_counts(counted), 'joined lists of ' + what, joined, counted, actual)
+        if len(gates.part_lists(data)[1]) > 1:
+            alone = run(self.options.gatesheet, joined)
+            self.sheets['joined on a sheet'] += 1
+            self.note(sums is not None and sums == printed_sums(alone), 'joined lists on a sheet of ' + what, joined, actual, alone)
 
     def other_sheets(self, number, case, first):
         """The same numbers by name whatever the order of the gate lines, by the real program alone."""

@@ -1,7 +1,7 @@
 #!/usr/bin/env python3
 """Examples of Gating-ML 2.0, with members worked out by hand, through gatecount.
 
-    tests/vectors.py [--gatecount COMMAND] [--plans COMMAND]
+    tests/vectors.py [--gatecount COMMAND] [--gatesheet COMMAND] [--plans COMMAND]
 
 Each event goes through gatecount alone, so that its counts tell of which regions it is a member. The numbers of a vector are those of the
 document's example; what an example has and a table has not (transformed scales, and the parents that need them) is left out. Example
@@ -14,6 +14,9 @@ Outlines of up to 256 vertices stand here too, each begun at several of its vert
 
 Outlines are not counted, so those vectors are asked as questions `compile` and `judge` (see tests/compare.py): of the
 program at --plans, where it is given, and of the reference program in any case.
+
+The events of a vector that no region holds are its unclaimed ones: they are asked of the program at --gatesheet, where it is given, and of the
+reference program in any case, with all events in one list and spoilt ones between, and in two lists.
 
 That the vectors would see a wrong program is tested too: each fault of FAULTS, planted in the reference program (tests/reference/plants.py), must give
 another answer on the vectors that are named with it. The last line is 'N passed, M failed'.
@@ -565,6 +568,24 @@ def faults_seen(expect):
                 expect('the fault %s is seen by: %s' % (fault, words), True, [gates.gatecount(data) for data in inputs] != plain)
 
 
+def unclaimed_told(expect, gatesheet):
+    """The line of the unclaimed on a sheet of all events of a vector, a spoilt one behind each, and of the same in two lists."""
+    asked = [('the reference', gates.gatesheet)]
+    if gatesheet:
+        asked.append(('the program', lambda data: subprocess.run(gatesheet, input=data, stdout=subprocess.PIPE, timeout=60).stdout))
+    for heading, table, events in VECTORS:
+        if isinstance(events, str):
+            continue
+        spoilt = ' '.join(['70000'] * len(table[0].split()[1:]))
+        lines = [[line for event, _ in some for line in (event, spoilt)] for some in (events, events[:2], events[2:])]
+        left = [sum(1 for _, holders in some if not holders) for some in (events, events[:2], events[2:])]
+        for who, ask in asked:
+            for lists, unclaimed in ((lines[:1], left[:1] * 2), (lines[1:], left[1:] + left[:1])):
+                found = printed(ask(given(table + [line for each in lists for line in ['events'] + each])))
+                expect('the unclaimed in %d lists by %s, %s' % (len(lists), who, heading), ' '.join(['unclaimed'] + [str(number) for number in unclaimed]),
+                       found[-3] if len(found) > 3 else found)
+
+
 def outlined(ask, table, events):
     """The regions of which each event is a member on the outline, by what is answered to `compile` and `judge`."""
     names = gates.compile_table(given(table), gates.PLAN_WORDS)[3]
@@ -635,6 +656,7 @@ def long_told(expect, command, plans):
 def main():
     parser = argparse.ArgumentParser(description=__doc__.split('\n')[0])
     parser.add_argument('--gatecount', type=shlex.split, default=['target/bin/gatecount'], metavar='COMMAND')
+    parser.add_argument('--gatesheet', type=shlex.split, metavar='COMMAND')
     parser.add_argument('--plans', type=shlex.split, metavar='COMMAND',
                         help='answers the questions of tests/compare.py')
     options = parser.parse_args()
@@ -659,6 +681,7 @@ def main():
             members = sorted(line.split()[0] for line in lines[:-2] if line.split()[1] == '1')
             expect('%s of %s' % (event, heading), sorted(holders.split()), members)
     faults_seen(expect)
+    unclaimed_told(expect, options.gatesheet)
     outlines_told(expect, options.plans)
     long_told(expect, command, options.plans)
     print('%d passed, %d failed' % (passed, failed))

@@ -1,9 +1,9 @@
 /*
  * agree PLANS NAME=LIB.so ..: runs random plans and events through gate_check, gate_judge and gate_count of all
  * libraries and demands equal answers. Plans are of good form and damaged, and of all kinds; many events lie on a
- * bound, an edge or a rim, and each kind of outline must be met. A library after the first may be that of an earlier
- * counter: as many numbers are compared as its row has, and a plan must be refused by it at the first kind of step that
- * it does not know.
+ * bound, an edge or a rim, and each kind of outline must be met, and so must events taken in some region and in none. A
+ * library after the first may be that of an earlier counter: as many numbers are compared as its row has, and a plan
+ * must be refused by it at the first kind of step that it does not know.
  */
 #include "libraries.h"
 #include "plans.h"
@@ -40,7 +40,7 @@ static size_t out_length(const struct library *library, enum function function) 
     switch (function) {
     case CHECK: return GATE_CHECK_OUT;
     case JUDGE: return library->judge_out;
-    default: return GATE_COUNT_OUT;
+    default: return library->count_out;
     }
 }
 
@@ -146,6 +146,19 @@ static void demand_outlines(void) {
     }
 }
 
+/* Says what an earlier counter lacks. */
+static void print_earlier(const struct library *library) {
+    if (library->last_kind < LAST_KIND) {
+        printf("%s has the kinds of step up to %" PRId32 " and must refuse others\n", library->name, library->last_kind);
+    }
+    if (library->judge_out < GATE_JUDGE_OUT) {
+        printf("%s has rows of %zu numbers of gate_judge; so many are compared\n", library->name, library->judge_out);
+    }
+    if (library->count_out < GATE_COUNT_OUT) {
+        printf("%s has rows of %zu numbers of gate_count; so many are compared\n", library->name, library->count_out);
+    }
+}
+
 int main(int argc, char **argv) {
     if (argc < 4 || argc - 2 > MAX_LIBRARIES) {
         fprintf(stderr, "usage: agree PLANS NAME=LIB.so NAME=LIB.so ..\n");
@@ -153,14 +166,14 @@ int main(int argc, char **argv) {
     }
     long plans = strtol(argv[1], NULL, 10);
     for (int i = 2; i < argc; i++) libraries[library_count++] = load_library(argv[i]);
-    if (libraries[0].judge_out != GATE_JUDGE_OUT || libraries[0].last_kind < LAST_KIND) {
+    if (libraries[0].judge_out < GATE_JUDGE_OUT || libraries[0].count_out < GATE_COUNT_OUT || libraries[0].last_kind < LAST_KIND) {
         fprintf(stderr, "%s: an earlier counter can't be the first library\n", libraries[0].name);
         return 1;
     }
 
     struct random random = seeded(2015);
     uint64_t checked[GATE_SPOILT + 1] = {0}, judged[GATE_SPOILT + 1] = {0}, counted[GATE_SPOILT + 1] = {0};
-    uint64_t taken = 0, aimed = 0, on_outline = 0;
+    uint64_t taken = 0, unclaimed = 0, aimed = 0, on_outline = 0;
     for (long turn = 0; turn < plans; turn++) {
         static struct plan good, plan;
         int32_t events[MAX_EVENTS * MAX_N + 1] = {0};
@@ -176,6 +189,7 @@ int main(int argc, char **argv) {
         struct answer answer = ask_all(COUNT, &plan, events, events_len);
         counted[answer.out[GATE_OUT_REFUSAL]]++;
         taken += answer.out[GATE_OUT_TAKEN];
+        unclaimed += answer.out[GATE_OUT_UNCLAIMED];
         for (size_t i = 0; i < count && i < 8; i++) {
             size_t event_len = below(&random, 16) == 0 ? below(&random, n + 2) : n;
             struct answer judgement = ask_all(JUDGE, &plan, events + i * n, event_len);
@@ -189,10 +203,7 @@ int main(int argc, char **argv) {
     printf("Agreement of %d libraries:", library_count);
     for (int i = 0; i < library_count; i++) printf(" %s", libraries[i].name);
     printf("\n");
-    for (int i = 0; i < library_count; i++) {
-        if (libraries[i].last_kind == LAST_KIND) continue;
-        printf("%s has the kinds of step up to %" PRId32 " and must refuse others\n", libraries[i].name, libraries[i].last_kind);
-    }
+    for (int i = 0; i < library_count; i++) print_earlier(&libraries[i]);
     printf("%-12s %8s %8s %8s %8s %8s\n", "", "pass", "21", "22", "23", "24");
     const uint64_t *rows[] = {checked, judged, counted};
     for (int i = CHECK; i <= COUNT; i++) {
@@ -200,9 +211,13 @@ int main(int argc, char **argv) {
         for (int number = GATE_LONG_PLAN; number <= GATE_SPOILT; number++) printf(" %8" PRIu64, rows[i][number]);
         printf("\n");
     }
-    printf("%ld plans, all answers equal; %" PRIu64 " events taken in counts, %" PRIu64
+    printf("%ld plans, all answers equal; %" PRIu64 " events taken in counts, %" PRIu64 " of them unclaimed, %" PRIu64
            " events put on a bound, an edge or a rim, %" PRIu64 " events judged to be on an outline\n",
-           plans, taken, aimed, on_outline);
+           plans, taken, unclaimed, aimed, on_outline);
+    if (unclaimed == 0 || unclaimed == taken) {
+        fprintf(stderr, "no event taken was met that is in %s region\n", unclaimed == 0 ? "no" : "some");
+        return 1;
+    }
     demand_outlines();
     return 0;
 }

@@ -374,7 +374,7 @@ void gate_judge(const int32_t *plan, size_t plan_len, const int32_t *event, size
     out[GATE_OUT_OUTLINE] = outline_of(plan, event, out[GATE_OUT_BITS]);
 }
 
-void gate_count(const int32_t *plan, size_t plan_len, const int32_t *events, size_t events_len, uint64_t out[68]) {
+void gate_count(const int32_t *plan, size_t plan_len, const int32_t *events, size_t events_len, uint64_t out[69]) {
     memset(out, 0, GATE_COUNT_OUT * sizeof out[0]);
     if (!passes(plan, plan_len, out)) return;
     int n = plan[0], steps = plan[1];
@@ -382,7 +382,7 @@ void gate_count(const int32_t *plan, size_t plan_len, const int32_t *events, siz
         refuse(out, GATE_RAGGED, events_len);
         return;
     }
-    uint64_t taken = 0, spoilt = 0, counts[GATE_REGIONS] = {0};
+    uint64_t taken = 0, spoilt = 0, unclaimed = 0, counts[GATE_REGIONS] = {0};
     for (size_t i = 0; i < events_len; i += n) {
         const int32_t *event = events + i;
         if (first_spoilt(event, n) < n) {
@@ -390,10 +390,12 @@ void gate_count(const int32_t *plan, size_t plan_len, const int32_t *events, siz
         } else {
             uint64_t bits = bits_of(plan, event);
             taken++;
+            unclaimed += bits == 0;
             for (int r = 0; r < steps; r++) counts[r] += bits >> r & 1;
         }
     }
     out[GATE_OUT_TAKEN] = taken;
     out[GATE_OUT_SPOILT_COUNT] = spoilt;
     memcpy(out + GATE_OUT_COUNTS, counts, sizeof counts);
+    out[GATE_OUT_UNCLAIMED] = unclaimed;
 }

@@ -35,6 +35,7 @@ mod counter {
         pub taken: u64,
         pub spoilt: u64,
         pub counts: [u64; REGIONS],
+        pub unclaimed: u64,
     }
 
     enum Shape<'a> {
@@ -376,13 +377,14 @@ mod counter {
         if events.len() % n != 0 {
             return Err(Refusal(23, events.len()));
         }
-        let mut tally = Tally { taken: 0, spoilt: 0, counts: [0; REGIONS] };
+        let mut tally = Tally { taken: 0, spoilt: 0, counts: [0; REGIONS], unclaimed: 0 };
         for event in events.chunks_exact(n) {
             if first_spoilt(event).is_some() {
                 tally.spoilt += 1;
             } else {
                 let bits = bits_of(plan, event).members;
                 tally.taken += 1;
+                tally.unclaimed += u64::from(bits == 0);
                 for region in 0..steps {
                     tally.counts[region] += (bits >> region) & 1;
                 }
@@ -430,7 +432,7 @@ pub unsafe extern "C" fn gate_judge_row4(
 }
 
 #[no_mangle]
-pub unsafe extern "C" fn gate_count(
+pub unsafe extern "C" fn gate_count_row69(
     plan: *const i32,
     plan_len: usize,
     events: *const i32,
@@ -438,13 +440,14 @@ pub unsafe extern "C" fn gate_count(
     out: *mut u64,
 ) {
     let (plan, events) = (from_raw_parts(plan, plan_len), from_raw_parts(events, events_len));
-    let out = from_raw_parts_mut(out, 68);
+    let out = from_raw_parts_mut(out, 69);
     out.fill(0);
     match counter::count(plan, events) {
         Ok(tally) => {
             out[2] = tally.taken;
             out[3] = tally.spoilt;
-            out[4..].copy_from_slice(&tally.counts);
+            out[4..68].copy_from_slice(&tally.counts);
+            out[68] = tally.unclaimed;
         }
         Err(refusal) => refuse(out, refusal),
     }

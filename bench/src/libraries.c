@@ -22,11 +22,21 @@ void *load_function(const char *file, const char *function) {
     return address;
 }
 
-/* Judging by the symbol of gatecount.h or, where the library has no such, by that of earlier counters: a row of 3. */
-static void load_judge(struct library *library, const char *file) {
-    void *address = find_function(file, "gate_judge_row4");
-    library->judge_out = address == NULL ? 3 : GATE_JUDGE_OUT;
-    *(void **)&library->judge = address == NULL ? load_function(file, "gate_judge") : address;
+/* A symbol of a function that got another one whenever its row grew, and the numbers in its row. */
+struct grown {
+    const char *symbol;
+    size_t out;
+};
+
+/* The symbol that gatecount.h has, then those of earlier counters, the latest first. */
+static const struct grown judges[] = {{"gate_judge_row4", 4}, {"gate_judge", 3}, {NULL, 0}};
+static const struct grown counts[] = {{"gate_count_row69", 69}, {"gate_count", 68}, {NULL, 0}};
+
+/* The address of the first of the symbols that the library has, and the numbers in its row. */
+static void *load_grown(const char *file, const struct grown *grown, size_t *out) {
+    while (grown[1].symbol != NULL && find_function(file, grown->symbol) == NULL) grown++;
+    *out = grown->out;
+    return load_function(file, grown->symbol);
 }
 
 /* A plan that ends after its first kind is refused at the next word where that kind is known, else at the kind's. */
@@ -48,8 +58,8 @@ struct library load_library(char *argument) {
     library.name = argument;
     /* POSIX's way from dlsym's pointer to a function */
     *(void **)&library.check = load_function(equals + 1, "gate_check");
-    *(void **)&library.count = load_function(equals + 1, "gate_count");
-    load_judge(&library, equals + 1);
+    *(void **)&library.judge = load_grown(equals + 1, judges, &library.judge_out);
+    *(void **)&library.count = load_grown(equals + 1, counts, &library.count_out);
     library.last_kind = 0;
     while (library.last_kind < LAST_KIND && knows_kind(&library, library.last_kind + 1)) library.last_kind++;
     return library;

@@ -11,9 +11,10 @@ struct library {
     const char *name;
     void (*check)(const int32_t *plan, size_t plan_len, uint64_t *out);
     void (*judge)(const int32_t *plan, size_t plan_len, const int32_t *event, size_t event_len, uint64_t *out);
-    size_t judge_out;  /* numbers in the row of judge: GATE_JUDGE_OUT, fewer in an earlier counter */
-    int32_t last_kind; /* the last kind of step that it knows: LAST_KIND, a lower one in an earlier counter */
     void (*count)(const int32_t *plan, size_t plan_len, const int32_t *events, size_t events_len, uint64_t *out);
+    size_t judge_out;  /* numbers in the row of judge: GATE_JUDGE_OUT, fewer in an earlier counter */
+    size_t count_out;  /* numbers in the row of count: GATE_COUNT_OUT, fewer in an earlier counter */
+    int32_t last_kind; /* the last kind of step that it knows: LAST_KIND, a lower one in an earlier counter */
 };
 
 /* From "NAME=FILE"; ends the program where that fails. */

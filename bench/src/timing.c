@@ -53,9 +53,9 @@ static uint64_t answers[MAX_CONTENDERS][GATE_COUNT_OUT];
 
 static bool takes_part(const struct contender *contender, unsigned groups) { return (contender->groups & groups) != 0; }
 
-/* The numbers of a counter's answer; single calls have no row longer than that of gate_judge. */
+/* The numbers of a counter's answer, fewer of an earlier one; single calls have no row longer than that of gate_judge. */
 static size_t out_length(int contender) {
-    return load.group == CALLS ? contenders[contender].library.judge_out : GATE_COUNT_OUT;
+    return load.group == CALLS ? contenders[contender].library.judge_out : contenders[contender].library.count_out;
 }
 
 /* Whether its answer is the one that it owes. Boost's and Java's may differ, which is printed below the row. */

@@ -71,6 +71,7 @@ static void test_example(void) {
     expect_number(tally.answer.place, 0, "place of a count that is not refused");
     expect_number(tally.taken, 5, "taken");
     expect_number(tally.spoilt, 1, "spoilt");
+    expect_number(tally.unclaimed, 1, "unclaimed: (400, 376) is in no region, (70000, 0) is spoilt");
     for (size_t i = 0; i < GATE_REGIONS; i++) {
         expect_number(tally.counts[i], i < LENGTH(counts) ? counts[i] : 0, "count of a region");
     }
@@ -281,12 +282,74 @@ static void test_all_regions(void) {
     struct gate_tally tally;
     gate_count_events(plan, LENGTH(plan), events, LENGTH(events), &tally);
     expect_number(tally.taken, 4, "taken by 64 regions");
+    expect_number(tally.unclaimed, 1, "unclaimed by 64 regions");
     for (int r = 0; r < GATE_REGIONS; r++) {
         expect_number(tally.counts[r], r == 0 ? 3 : r < 63 ? 2 : 1, "count of one of 64 regions");
     }
     struct gate_judgement judgement = gate_judge_event(plan, LENGTH(plan), events, 1);
     expect_number(judgement.bits, UINT64_MAX, "member of all 64 regions");
     expect_number(judgement.outline, 0, "64 boxes have no outline");
+}
+
+/* The row of a count: what is expected of taken, spoilt and unclaimed; what stood in it before must be gone. */
+static void expect_unclaimed(const char *what, const int32_t *plan, size_t plan_len, const int32_t *events, size_t events_len,
+                             uint64_t taken, uint64_t spoilt, uint64_t unclaimed) {
+    uint64_t out[GATE_COUNT_OUT + 1];
+    memset(out, 0xFF, sizeof out);
+    gate_count(plan, plan_len, events, events_len, out);
+    expect_number(out[GATE_OUT_REFUSAL], GATE_PASSES, what);
+    expect_number(out[GATE_OUT_PLACE], 0, what);
+    expect_number(out[GATE_OUT_TAKEN], taken, what);
+    expect_number(out[GATE_OUT_SPOILT_COUNT], spoilt, what);
+    expect_number(out[GATE_OUT_UNCLAIMED], unclaimed, what);
+    expect_number(out[GATE_COUNT_OUT], UINT64_MAX, "the number behind the row");
+    struct gate_tally tally;
+    memset(&tally, 0xFF, sizeof tally);
+    gate_count_events(plan, plan_len, events, events_len, &tally);
+    expect_number(tally.unclaimed, unclaimed, what);
+}
+
+static void test_unclaimed(void) {
+    expect_number(GATE_OUT_UNCLAIMED, GATE_OUT_COUNTS + GATE_REGIONS, "unclaimed stands behind the counts");
+    expect_number(GATE_COUNT_OUT, GATE_OUT_UNCLAIMED + 1, "unclaimed is the last number of the row");
+    expect_unclaimed("the worked example", example, LENGTH(example), example_events, LENGTH(example_events), 5, 1, 1);
+    expect_unclaimed("no event", example, LENGTH(example), example_events, 0, 0, 0, 0);
+
+    static const int32_t no_region[] = {1, 0}, values[] = {5, -65537, 65535, 65536, -65536, 0};
+    expect_unclaimed("no region", no_region, LENGTH(no_region), values, LENGTH(values), 4, 2, 4);
+    expect_unclaimed("no region, no event", no_region, LENGTH(no_region), values, 0, 0, 0, 0);
+
+    static const int32_t spoilt[] = {65536, 0, 0, -65537, 70000, 70000, INT32_MIN, INT32_MAX};
+    expect_unclaimed("all events spoilt", example, LENGTH(example), spoilt, LENGTH(spoilt), 0, 4, 0);
+    expect_unclaimed("all events spoilt, no region", no_region, LENGTH(no_region), spoilt + 4, 4, 0, 4, 0);
+
+    /* A parent's member is claimed by it alone; in a shape but outside its parent is in no region. */
+    static const int32_t within[] = {2, 2, GATE_BOX, 1, -1, 3, 0, 0, 10, GATE_BOX, 0, 1, 3, 1, 0, 10};
+    static const int32_t places[] = {5, 5, 5, 50, 50, 5, 50, 50};
+    expect_unclaimed("outside a parent", within, LENGTH(within), places, LENGTH(places), 4, 0, 2);
+
+    /* A complement claims all that is outside of it: nobody is left. */
+    static const int32_t others[] = {2, 2, GATE_BOX, 1, -1, 3, 0, 0, 10, GATE_NOT, 0, -1, 1, 2 * 1};
+    expect_unclaimed("a region and its complement", others, LENGTH(others), places, LENGTH(places), 4, 0, 0);
+    static const int32_t none[] = {2, 1, GATE_BOX, 0, -1, 3, 0, -65536, -65535};
+    expect_unclaimed("a region without members", none, LENGTH(none), places, LENGTH(places), 4, 0, 4);
+
+    /* 64 boxes that each hold one value: only the last region holds 63, and none holds 64. Lists around 64 events too. */
+    static int32_t each[2 + 7 * GATE_REGIONS] = {1, GATE_REGIONS}, many[200];
+    for (int r = 0; r < GATE_REGIONS; r++) {
+        const int32_t step[] = {GATE_BOX, r, -1, 3, 0, r, r + 1};
+        memcpy(each + 2 + 7 * r, step, sizeof step);
+    }
+    static const int32_t last[] = {63}, first[] = {0}, beyond[] = {64}, some[] = {63, 64, 63, -1, 65536, 31};
+    expect_unclaimed("in the last region only", each, LENGTH(each), last, 1, 1, 0, 0);
+    expect_unclaimed("in the first region only", each, LENGTH(each), first, 1, 1, 0, 0);
+    expect_unclaimed("in none of 64 regions", each, LENGTH(each), beyond, 1, 1, 0, 1);
+    expect_unclaimed("in the last region, in another, in none, spoilt", each, LENGTH(each), some, LENGTH(some), 5, 1, 2);
+    for (size_t i = 0; i < LENGTH(many); i++) many[i] = i % 3 == 0 ? 64 : i % 3 == 1 ? 63 : 70000;
+    for (size_t len = 62; len <= LENGTH(many); len += len < 66 ? 1 : 67) {
+        expect_unclaimed("events by threes: in no region, in the last, spoilt", each, LENGTH(each), many, len,
+                         (len + 2) / 3 + (len + 1) / 3, len / 3, (len + 2) / 3);
+    }
 }
 
 /* 64 triangles around the origin, each the parent of the next; it is a vertex of every other one. */
@@ -642,6 +705,7 @@ int main(void) {
     test_ellipsoids();
     test_outlines();
     test_all_regions();
+    test_unclaimed();
     test_all_outlines();
     test_form();
     test_longest_plan();

@@ -1,7 +1,8 @@
 /*
  * joined.c: counts random lists whole and in two parts, cut behind every event, and compares the row of the whole with the
- * sum of the parts' rows, number for number; cut within an event, both parts must be refused, with zeros.
- * A list with all its cuts is one test. Prints 'N passed, M failed'; the exit status is 1 when one failed.
+ * sum of the parts' rows, number for number; cut within an event, both parts must be refused, with zeros. Judges their
+ * events one by one: unclaimed must be those without a bit. A list with all its cuts is one test.
+ * Prints 'N passed, M failed'; the exit status is 1 when one failed.
  */
 #include "gatecount.h"
 #include "plans.h"
@@ -67,11 +68,23 @@ static int refuses_cut_events(const struct plan *plan, const int32_t *values, si
     return 1;
 }
 
+/* How many of the events are in no region, judged one by one. */
+static uint64_t judged_unclaimed(const struct plan *plan, const int32_t *values, size_t len) {
+    size_t n = (size_t)plan->words[0];
+    uint64_t unclaimed = 0;
+    for (size_t at = 0; at < len; at += n) {
+        uint64_t row[GATE_JUDGE_OUT];
+        gate_judge(plan->words, plan->len, values + at, n, row);
+        unclaimed += row[GATE_OUT_REFUSAL] == GATE_PASSES && row[GATE_OUT_BITS] == 0;
+    }
+    return unclaimed;
+}
+
 int main(void) {
     static struct plan plan;
     static int32_t values[MAX_EVENTS * MAX_N];
     struct random random = seeded(20261117);
-    uint64_t taken = 0, spoilt = 0, members = 0, cuts = 0;
+    uint64_t taken = 0, spoilt = 0, members = 0, unclaimed = 0, cuts = 0;
     for (int list = 0; list < LISTS; list++) {
         uint64_t whole[GATE_COUNT_OUT];
         random_plan(&random, &plan);
@@ -81,14 +94,18 @@ int main(void) {
         gate_count(plan.words, plan.len, values, events * n, whole);
         expect(whole[GATE_OUT_REFUSAL] == GATE_PASSES && adds_up(&plan, values, events * n, whole), "the sum of two parts", list);
         expect(whole[GATE_OUT_TAKEN] + whole[GATE_OUT_SPOILT_COUNT] == events, "taken and spoilt are all events", list);
+        expect(whole[GATE_OUT_UNCLAIMED] == judged_unclaimed(&plan, values, events * n), "unclaimed are those judged to be in no region", list);
         expect(refuses_cut_events(&plan, values, events * n), "cut within an event", list);
         taken += whole[GATE_OUT_TAKEN];
         spoilt += whole[GATE_OUT_SPOILT_COUNT];
-        for (int i = GATE_OUT_COUNTS; i < GATE_COUNT_OUT; i++) members += whole[i];
+        for (int i = GATE_OUT_COUNTS; i < GATE_OUT_COUNTS + GATE_REGIONS; i++) members += whole[i];
+        unclaimed += whole[GATE_OUT_UNCLAIMED];
         cuts += events + 1;
     }
-    printf("%" PRIu64 " cuts; %" PRIu64 " events taken, %" PRIu64 " spoilt, %" PRIu64 " members\n", cuts, taken, spoilt, members);
+    printf("%" PRIu64 " cuts; %" PRIu64 " events taken, %" PRIu64 " spoilt, %" PRIu64 " members, %" PRIu64 " unclaimed\n",
+           cuts, taken, spoilt, members, unclaimed);
     expect(taken > 0 && spoilt > 0 && members > 0, "events taken, spoilt ones and members are met", LISTS);
+    expect(0 < unclaimed && unclaimed < taken, "events taken that are in no region, and others, are met", LISTS);
     printf("%d passed, %d failed\n", passed, failed);
     return failed != 0;
 }

@@ -95,9 +95,9 @@ int main(void)
             print_bits(out[GATE_OUT_OUTLINE]);
             putchar('\n');
         } else if (strcmp(word, "count") == 0) {
-            uint64_t out[68];
+            uint64_t out[GATE_COUNT_OUT];
             gate_count(plan, (size_t)words, values, (size_t)length, out);
-            for (int i = 0; i < 68; i++)
+            for (int i = 0; i < GATE_COUNT_OUT; i++)
                 printf(i ? " %" PRIu64 : "%" PRIu64, out[i]);
             putchar('\n');
         } else {

@@ -14,10 +14,10 @@ harness() {
 }
 
 # The plain counter under other names, with a fault planted by a sed command where one is given. gatecount.h makes gate_judge
-# gate_judge_row4, so that this is the name to change.
+# gate_judge_row4 and gate_count gate_count_row69, so that these are the names to change.
 plain_counter() {
     sed "$1" bench/src/interpreter.c | gcc -std=c99 -O2 -Iinclude -Dgate_check=plain_check -Dgate_judge_row4=plain_judge \
-        -Dgate_count=plain_count -x c -c - -o $out/objects/plain.o
+        -Dgate_count_row69=plain_count -x c -c - -o $out/objects/plain.o
 }
 
 # What is put together in C of an input, with a fault planted by a sed command.

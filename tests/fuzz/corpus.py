@@ -48,6 +48,10 @@ OTHERS = b'11\t3\n12\t8\n70000\t1\n99999999999\t1\n'
 # A table with 64 regions.
 BROAD = b'dims\tA\n' + b''.join([b'rect\t%c%c\t-\tA\t*\t*\n' % (65 + i // 8, 65 + i % 8) for i in range(64)])
 
+# 64 regions that hold one value each, from 0 to 63; events in the last alone, in another, in none, spoilt ones.
+NARROW = b'dims\tA\n' + b''.join([b'rect\tR%d\t-\tA\t%d\t%d\n' % (i, i, i + 1) for i in range(64)])
+CLAIMED = b'63\n64\n63\n-1\n70000\n0\n'
+
 
 # ---------------------------------------------------------------- seeds
 
@@ -71,8 +75,10 @@ def store(folder, data):
 
 
 def sheets():
-    """Inputs of no list, one, two, three and many; empty ones; bad lines in one or in two; ends without LF."""
+    """Inputs of no list, one, two, three and many; empty ones; bad lines in one or in two; ends without LF; events in one of 64 regions or in none."""
     yield CRUISE
+    yield NARROW + b'events\n' + CLAIMED + b'events\nevents\n63\n62\n'
+    yield b'dims\tA\nevents\n' + CLAIMED + b'events\n70000\n70001\nevents\n1\n'
     for lists in ([SOME], [b''], [SOME, OTHERS], [b'', b''], [OTHERS, SOME, OTHERS[:5]], [b'', SOME, b''], [SOME, b'', OTHERS], [SOME] * 40,
                   [OTHERS[:5] * (i % 7) + SOME[:4] * (i % 3) for i in range(300)],
                   [SOME, OTHERS + b'1\n' + SOME], [b'', SOME + b'1\t2\t3\n', b'x\n'], [SOME + b'1\t-0\n', OTHERS], [SOME, OTHERS, b'Events\n'],

@@ -65,8 +65,8 @@ static void same_words(const int32_t *copy, const int32_t *words, size_t length)
 
 static struct room plan_room, values_room, out_room;
 
-/* One event judged by both; its bits. Only members may be on an outline. */
-static uint64_t judged(const int32_t *plan, size_t plan_len, const int32_t *event, size_t length, int at_start)
+/* One event judged by both: 1 where it is not refused, and its bits. Only members may be on an outline. */
+static int judged(const int32_t *plan, size_t plan_len, const int32_t *event, size_t length, int at_start, uint64_t *bits)
 {
     uint64_t *out = lend(&out_room, GATE_JUDGE_OUT * sizeof *out, at_start), plain[GATE_JUDGE_OUT];
     memset(out, 0xa5, sizeof plain);
@@ -74,7 +74,8 @@ static uint64_t judged(const int32_t *plan, size_t plan_len, const int32_t *even
     plain_judge(plan, plan_len, event, length, plain);
     MUST((out[GATE_OUT_OUTLINE] & ~out[GATE_OUT_BITS]) == 0);
     MUST(memcmp(out, plain, sizeof plain) == 0);
-    return out[GATE_OUT_BITS];
+    *bits = out[GATE_OUT_BITS];
+    return out[GATE_OUT_REFUSAL] == GATE_PASSES;
 }
 
 int same_answers(const int32_t *plan_given, size_t plan_len, const int32_t *values_given, size_t values_len)
@@ -97,17 +98,21 @@ int same_answers(const int32_t *plan_given, size_t plan_len, const int32_t *valu
     MUST(memcmp(out, plain, sizeof plain) == 0);
 
     /* One by one, and the whole list as if it were one event. */
-    judged(plan, plan_len, values, values_len, at_start);
+    uint64_t bits;
+    judged(plan, plan_len, values, values_len, at_start, &bits);
     if (passes) {
         size_t n = (size_t)plan[0], events = values_len / n;
-        uint64_t counts[GATE_REGIONS] = {0};
+        uint64_t counts[GATE_REGIONS] = {0}, unclaimed = 0;
         for (size_t i = 0; i < events && i < MOST_JUDGED; i++) {
-            uint64_t bits = judged(plan, plan_len, values + i * n, n, at_start);
+            int taken = judged(plan, plan_len, values + i * n, n, at_start, &bits);
             for (int r = 0; r < GATE_REGIONS; r++)
                 counts[r] += bits >> r & 1;
+            unclaimed += taken && bits == 0;
         }
-        if (events <= MOST_JUDGED && values_len % n == 0)
+        if (events <= MOST_JUDGED && values_len % n == 0) {
             MUST(memcmp(counts, plain + GATE_OUT_COUNTS, sizeof counts) == 0);
+            MUST(unclaimed == plain[GATE_OUT_UNCLAIMED]);
+        }
     }
     same_words(plan, plan_given, plan_len);
     same_words(values, values_given, values_len);

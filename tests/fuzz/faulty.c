@@ -1,6 +1,6 @@
 /*
- * faulty.c: the proved compiler, the proved judging and the program `gatesheet`, one of them with something added: tests/fuzz/check
- * links them in the place of these, to see that the harness sees each FAULT.
+ * faulty.c: the proved compiler, the proved judging and counting and the program `gatesheet`, one of them with something added:
+ * tests/fuzz/check links them in the place of these, to see that the harness sees each FAULT.
  */
 #include <sys/types.h>
 
@@ -62,6 +62,26 @@ void __wrap_gate_judge_row4(const int32_t *plan, size_t plan_len, const int32_t 
         break;
     case 11: /* it writes behind its row */
         *(volatile uint64_t *)&out[GATE_JUDGE_OUT] = 0;
+    }
+}
+
+void __real_gate_count_row69(const int32_t *plan, size_t plan_len, const int32_t *events, size_t events_len, uint64_t out[69]);
+void __wrap_gate_count_row69(const int32_t *plan, size_t plan_len, const int32_t *events, size_t events_len, uint64_t out[69]);
+
+void __wrap_gate_count_row69(const int32_t *plan, size_t plan_len, const int32_t *events, size_t events_len, uint64_t out[69])
+{
+    uint64_t before = out[GATE_OUT_UNCLAIMED];
+    __real_gate_count_row69(plan, plan_len, events, events_len, out);
+    switch (FAULT) {
+    case 17: /* a refused count leaves the number of unclaimed events as it was */
+        if (out[GATE_OUT_REFUSAL] != GATE_PASSES)
+            out[GATE_OUT_UNCLAIMED] = before;
+        break;
+    case 18: /* spoilt events are unclaimed too */
+        out[GATE_OUT_UNCLAIMED] += out[GATE_OUT_SPOILT_COUNT];
+        break;
+    case 19: /* it writes behind its row */
+        *(volatile uint64_t *)&out[GATE_COUNT_OUT] = 0;
     }
 }
 

@@ -15,7 +15,7 @@
 #include "gatecount.h"
 #include "tries.h"
 
-enum { INPUT_BYTES = 65536, COUNTS = 8192, SHEET = 1250000, TOLD = 8192, VALUES = 65536, LISTS = INPUT_BYTES / 7, UNTOUCHED = 2100000000 };
+enum { INPUT_BYTES = 65536, COUNTS = 8192, SHEET = 1300000, TOLD = 8192, VALUES = 65536, LISTS = INPUT_BYTES / 7, UNTOUCHED = 2100000000 };
 
 /* ---- The programs' reading and writing ---- */
 
@@ -427,6 +427,8 @@ static void want_sheet(const uint8_t *data, size_t size)
         want_text("\n", 1);
     }
     want_columns("taken", 5, GATE_OUT_TAKEN);
+    want_text("\n", 1);
+    want_columns("unclaimed", 9, GATE_OUT_UNCLAIMED);
     want_text("\n", 1);
     want_columns("spoilt", 6, GATE_OUT_SPOILT_COUNT);
     want_text("\n", 1);

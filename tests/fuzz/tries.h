@@ -42,6 +42,6 @@ void same_on_near_events(const int32_t *plan, size_t plan_len, uint64_t seed);
 /* The plain counter: bench/src/interpreter.c under other names. */
 void plain_check(const int32_t *plan, size_t plan_len, uint64_t out[2]);
 void plain_judge(const int32_t *plan, size_t plan_len, const int32_t *event, size_t event_len, uint64_t out[4]);
-void plain_count(const int32_t *plan, size_t plan_len, const int32_t *events, size_t events_len, uint64_t out[68]);
+void plain_count(const int32_t *plan, size_t plan_len, const int32_t *events, size_t events_len, uint64_t out[69]);
 
 #endif

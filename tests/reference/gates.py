@@ -9,7 +9,7 @@ Names and table text are bytes throughout, since a table is bytes.
     compile_table(table, slice_words) -> (number, place, words or None, region names)
     check_plan(words)                 -> (number, place)
     judge(words, event)               -> (number, place, bits, outline)
-    count(words, values)              -> (number, place, taken, spoilt, 64 counts)
+    count(words, values)              -> (number, place, taken, spoilt, 64 counts, unclaimed)
     members(table, event)             -> set of region names, with no plan between
     outlined(table, event)            -> those of them on whose own outline the event is
     gatecount(data)                   -> the program's whole standard output
@@ -853,15 +853,18 @@ def judge(words, event):
 
 
 def count(words, values):
-    """(number, place, taken, spoilt, counts); a refused count is a tally of zeros."""
+    """(number, place, taken, spoilt, counts, unclaimed); a refused count is a tally of zeros.
+
+    02 f: unclaimed are the events taken that are members of no region.
+    """
     number, place = check_plan(words)
     if number:
-        return number, place, 0, 0, [0] * REGIONS
+        return number, place, 0, 0, [0] * REGIONS, 0
     n = words[0]
     if len(values) % n != 0:
-        return 23, len(values), 0, 0, [0] * REGIONS
+        return 23, len(values), 0, 0, [0] * REGIONS, 0
     steps = plan_steps(words)
-    taken = spoilt = 0
+    taken = spoilt = unclaimed = 0
     counts = [0] * REGIONS
     for start in range(0, len(values), n):
         event = values[start:start + n]
@@ -872,7 +875,9 @@ def count(words, values):
         bits = event_bits(steps, event)
         for region in range(words[1]):
             counts[region] += bits >> region & 1
-    return 0, 0, taken, spoilt, counts
+        if bits == 0:
+            unclaimed += 1
+    return 0, 0, taken, spoilt, counts, unclaimed
 
 
 # ---------------------------------------------------------------- members and outlines without a plan
@@ -1066,7 +1071,8 @@ def gatecount(data):
     place, lists = read_lists([] if events_line is None else [(events_line, closed, lines)], words[0])
     if place is not None:
         return refused(23, place)
-    number, place, taken, spoilt, counts = count(words, lists[0] if lists else [])
+    # The unclaimed are printed on the sheet only.
+    number, place, taken, spoilt, counts, _ = count(words, lists[0] if lists else [])
     if number:
         return refused(number, place)
     printed = [printed_line(name, counts[region]) for region, name in enumerate(names)]
@@ -1083,18 +1089,21 @@ def region_parents(table):
 def sheet_rows(names, parents, tallies, events):
     """The lines of a sheet, each a name and its numbers.
 
-    A tally is (taken, spoilt, counts), one for each list; `events` is the number of events that
-    the lists hold.  The sum stands behind the columns.  Behind that of a region stand, over all
-    lists, its count once more and its parent's, or the taken where it has none.
+    A tally is (taken, spoilt, counts, unclaimed), one for each list; `events` is the number of
+    events that the lists hold.  The sum stands behind the columns.  Behind that of a region stand,
+    over all lists, its count once more and its parent's, or the taken where it has none.  02 f:
+    the unclaimed stand between taken and spoilt.
     """
-    takens = [taken for taken, _, _ in tallies]
-    spoilts = [spoilt for _, spoilt, _ in tallies]
-    columns = {name: [counts[region] for _, _, counts in tallies] for region, name in enumerate(names)}
+    takens = [taken for taken, _, _, _ in tallies]
+    spoilts = [spoilt for _, spoilt, _, _ in tallies]
+    unclaimeds = [unclaimed for _, _, _, unclaimed in tallies]
+    columns = {name: [counts[region] for _, _, counts, _ in tallies] for region, name in enumerate(names)}
     rows = []
     for name, parent in zip(names, parents):
         whole = takens if parent == b'-' else columns[parent]
         rows.append([name, *columns[name], sum(columns[name]), sum(columns[name]), sum(whole)])
     rows.append([b'taken', *takens, sum(takens)])
+    rows.append([b'unclaimed', *unclaimeds, sum(unclaimeds)])
     rows.append([b'spoilt', *spoilts, sum(spoilts)])
     rows.append([b'events', events])
     return rows

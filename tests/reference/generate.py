@@ -25,7 +25,7 @@ LETTERS = 'ABCDEFGHIJKLMNOPQRSTUVWXYZabcdefghijklmnopqrstuvwxyz'
 SIGNS = LETTERS + '0123456789-_'
 
 # No word is reserved: all of these are good names.
-TRICKY_NAMES = ['events', 'taken', 'spoilt', 'dims', 'refused', 'rect', 'poly', 'ellip', 'quad',
+TRICKY_NAMES = ['events', 'taken', 'spoilt', 'dims', 'refused', 'rect', 'unclaimed', 'ellip', 'quad',
                 'ellip3', 'and', 'or', 'not', 'in', 'less', 'A', 'z', 'A-', 'a_b', 'Z9', 'x-1-2-3_4_5_6_7',
                 'ABCDEFGHIJKLMNOP', 'ABCDEFGHIJKLMNOQ', 'dims08', 'apart', 'e1']
 
@@ -1241,6 +1241,63 @@ def full_table(rng):
     return table.mix()
 
 
+class ClaimTable(Table):
+    """Boxes beside each other with gaps between, each with a place that it alone may hold, and gates that take something away from that.
+
+    The boxes are over the first dimension, each 2 wide in a step of 4.  A gate more may hold two of them, stand within one of them or reach
+    beyond that one, combine some, or hold the rest.
+    """
+
+    def __init__(self, rng, boxes, more):
+        super().__init__(rng, n=rng.choice((1, 1, 2, 3)), span=(-9, 9))
+        self.boxes = {self.box(4 * at, 4 * at + 2): 4 * at for at in range(boxes)}
+        for _ in range(more if boxes else 0):
+            self.one_more()
+        self.mix()
+
+    def box(self, low, high, parent=b'-'):
+        line = Line(b'rect')
+        for role, field in (('name', self.name()), ('parent', parent), ('dimension', self.dimensions[0]), ('min', text(low)), ('max', text(high))):
+            line.add(role, field)
+        return self.finish(line, 7).fields[1]
+
+    def one_more(self):
+        rng = self.rng
+        name, place = rng.choice(list(self.boxes.items()))
+        style = rng.randrange(6)
+        if style == 0:
+            self.box(place, place + 6)
+        elif style == 1:
+            self.box(place + 1, place + rng.choice((2, 4)), name)
+        elif style == 2:
+            self.box(place + 2, place + 4, name)
+        else:
+            line = self.combination(*rng.choice(((b'and', 2), (b'or', 2), (b'or', 3), (b'not', 1))))
+            # With no parent complements hold nearly all.
+            line.fields[2] = b'-' if rng.random() < 0.5 else name
+            if rng.random() < 0.4:
+                line.fields[3:] = [b'!' + gates.operand_name(operand) for operand in line.fields[3:]]
+
+    def event(self):
+        """At a place of the first box, of the last one, of any; between two of them or beyond all; now and then spoilt."""
+        rng = self.rng
+        values = [self.value() for _ in range(self.n)]
+        named = [self.boxes[line.fields[1]] for line in self.lines if line.fields[1] in self.boxes]
+        values[0] = rng.choice((-1, -4, 2, 3, 4 * len(named) + rng.randint(0, 3), 65535, -65536))
+        if named and rng.random() < 0.7:
+            values[0] = rng.choice((named[0], named[-1], named[-1], rng.choice(named))) + rng.choice((0, 0, 0, 1, 1, 2, 3))
+        if rng.random() < 0.1:
+            values[rng.randrange(self.n)] = rng.choice((65536, -65537, 2147483647, -2147483648))
+        return values
+
+
+def claim_table(rng, regions=None):
+    """So many regions, or any number of them, some events in none."""
+    regions = rng.choice((0, 0, 1, 1, 2, 2, 3, 3, 4, 6, 10, 31, 32, 33, 63, 64)) if regions is None else regions
+    more = rng.choice((0, 0, 1, 2, 3)) if regions > 3 else 0
+    return ClaimTable(rng, regions - more, more)
+
+
 class OutlineTable(Table):
     """A table for one event: outlines go through it or just beside it, boxes just hold it or don't."""
 
@@ -2268,6 +2325,12 @@ def sheet_kin(rng):
     return accepted_sheet('shares', kin_table(rng), [rng.choice((0, 3, 6, 12)) for _ in range(rng.randint(1, 4))], orders=rng.random() < 0.25)
 
 
+def sheet_claims(rng, regions=None):
+    """Events that are members of no region, of one alone, of several; in no list to six of them."""
+    counts = [rng.choice((0, 1, 2, 4, 8, 12)) for _ in range(rng.choice((0, 1, 1, 2, 2, 3, 4, 6)))]
+    return accepted_sheet('unclaimed', claim_table(rng, regions), counts, orders=rng.random() < 0.2)
+
+
 def sheet_empty(rng):
     """Lists without events: the first, the last, both, all, every other."""
     lists = rng.randint(1, 6)
@@ -2493,7 +2556,7 @@ def sheet_fullest(rng, lists=3):
 
 SHEETS = ((140, sheet_few), (160, sheet_kin), (70, sheet_empty), (12, sheet_many_lists), (25, sheet_long_lists), (40, sheet_far), (110, sheet_bad_lines),
           (30, sheet_late_bad_line), (12, sheet_broken), (30, sheet_open), (60, sheet_forms), (150, sheet_of_case), (60, sheet_table_first), (30, sheet_rough),
-          (40, sheet_rough_lists), (5, sheet_size), (2, sheet_table_size), (2, sheet_long_table_part), (2, sheet_empty_lists))
+          (40, sheet_rough_lists), (5, sheet_size), (2, sheet_table_size), (2, sheet_long_table_part), (2, sheet_empty_lists), (90, sheet_claims))
 
 # The forms of lists, one of each refusal and the limits of size stand at the beginning.
 FIRST_SHEETS = ([lambda rng, style=style: sheet_forms(rng, style) for style in (*range(9), 8, 8, 8)]
@@ -2510,7 +2573,8 @@ FIRST_SHEETS = ([lambda rng, style=style: sheet_forms(rng, style) for style in (
                 + [lambda rng, size=size: sheet_size(rng, size) for size in (32768, 32769, 65535, 65536, 65537)]
                 + [lambda rng, size=size: sheet_table_size(rng, size) for size in (32767, 32768, 32769)] + [sheet_long_table_part]
                 + [lambda rng, lists=lists: sheet_empty_lists(rng, lists) for lists in (1000, 9361, 9362)]
-                + [sheet_widest, sheet_fullest, lambda rng: sheet_fullest(rng, 1)])
+                + [sheet_widest, sheet_fullest, lambda rng: sheet_fullest(rng, 1)]
+                + [lambda rng, regions=regions: sheet_claims(rng, regions) for regions in (0, 0, 0, 1, 2, 3, 31, 32, 33, 54, 63, 64, 64, 64)])
 _SHEET_WEIGHTS = [weight for weight, _ in SHEETS]
 _SHEET_MAKERS = [maker for _, maker in SHEETS]
 
@@ -2979,7 +3043,34 @@ def first_odd_rims():
         yield 'odd rim', ('judge', [2, 1, 3, 0, -1, 8, 0, 1, 0, 0, *entries, d2], list(rim[0]))
 
 
+def boxes_plan(order, more=(), steps=None):
+    """Boxes 2 wide in a step of 4 over one dimension, region r at 4 r, in this order of regions; then the words of further steps."""
+    return [1, len(order) if steps is None else steps, *[word for region in order for word in (1, region, -1, 3, 0, 4 * region, 4 * region + 2)], *more]
+
+
+def first_unclaimed():
+    """Counts of events in no region, in one alone, the first or the last, in several; spoilt ones; and refused counts."""
+    counted = [(boxes_plan(range(regions)), values) for regions in (0, 1, 2, 32, 33, 64) for values in (
+        [-1, 65535, 2, 3], [65536, -65537, 2147483647, -2147483648], [-1, 65536, 0, 2], [4 * region for region in range(regions)])]
+    # One region alone, of 64 in their order and in the other.
+    for order in (range(64), range(63, -1, -1)):
+        counted += [(boxes_plan(order), [4 * region]) for region in (0, 31, 32, 53, 63)]
+    counted += [(boxes_plan((1, 2, 0)), values) for values in ([0], [8], [4, 4, 4, 70000], [-1] * 300)]
+    # Steps more: a box over two of them, one within the first and one beyond it, `and`, `or`, `not`, and `not` within the first.
+    for more in ((1, 2, -1, 3, 0, 0, 6), (1, 2, 0, 3, 0, 1, 2), (1, 2, 0, 3, 0, 2, 4), (4, 2, -1, 2, 0, 2), (4, 2, -1, 2, 1, 3), (5, 2, -1, 2, 0, 2),
+                 (5, 2, -1, 2, 0, 3), (6, 2, -1, 1, 0), (6, 2, 0, 1, 2), (6, 2, -1, 1, 1)):
+        counted.append((boxes_plan(range(2), more, 3), [0, 1, 2, 3, 4, 5, 6, -1, 65536]))
+    # Two dimensions, the second of them in no step.
+    counted += [([2, *boxes_plan(range(2))[1:]], values) for values in ([0, 9, 9, 0, 4, 65536, 65536, 4], [9, 0], [9, 0, 9], [9], [9, 0, 0])]
+    # Refused by the plan: cut off, a word left over, a bad step behind good ones, a long plan; and by a ragged list, too.
+    for words in (boxes_plan(range(2))[:-1], [*boxes_plan(range(2)), 0], boxes_plan(range(2), (1, 2, -1, 3, 0, 5, 5), 3), [1, 0, 0], [1], [0, 0], [],
+                  boxes_plan(range(2)) + [0] * 4096):
+        counted.append((words, [-1, 65536, 2]))
+    return [('unclaimed by hand', ('count', *each)) for each in counted]
+
+
 FIRST_QUESTIONS = [*first_ellipsoids(), *first_odd_rims()]
+FIRST_COUNTS = first_unclaimed()
 
 
 def request(seed, number):
@@ -3005,14 +3096,22 @@ def request(seed, number):
         return 'each number of vertices', ('judge', *long_outline_plan(rng, sizes, [FIRST_EDGES[turn](rng, size) for size in sizes]))
     if turn == len(FIRST_EDGES):
         return 'each number of vertices', ('judge', *long_outline_plan(rng, sizes))
+    before += len(FIRST_QUESTIONS) + (len(FIRST_EDGES) + 1) * len(long_outlines.TURNS)
+    if number < before + len(FIRST_COUNTS):
+        return FIRST_COUNTS[number - before]
     style = rng.random()
     if style < 0.004:
         words = long_words(rng)
         if rng.random() < 0.5:
             return 'long words', ('check', words)
         return 'long words', ('judge', words, [0, 0])
-    if style < 0.23:
+    if style < 0.20:
         return 'damaged plan', ('check', damage_plan(rng, Plan(rng)))
+    if style < 0.23:
+        table = claim_table(rng)
+        words = gates.compile_table(table.bytes(), 4096)[2]
+        values = [value for event in table.events(rng.choice((1, 1, 2, 4, 8, 12, many(rng)))) for value in event]
+        return 'unclaimed', ('count', words, values[1:] if rng.random() < 0.05 else values)
     if style < 0.27:
         return 'good plan', ('check', Plan(rng).words)
     if style < 0.44:

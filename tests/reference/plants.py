@@ -141,17 +141,18 @@ def combination_without_parent(steps, event):
 
 
 def spoilt_as_taken(words, values):
-    number, place, taken, spoilt, counts = _ORIGINAL['count'](words, values)
-    return number, place, taken + spoilt, spoilt, counts
+    number, place, taken, spoilt, counts, unclaimed = _ORIGINAL['count'](words, values)
+    return number, place, taken + spoilt, spoilt, counts, unclaimed
 
 
 def first_event_for_all(words, values):
-    number, place, taken, spoilt, counts = _ORIGINAL['count'](words, values)
+    number, place, taken, spoilt, counts, unclaimed = _ORIGINAL['count'](words, values)
     if taken:
         first = next(values[at:at + words[0]] for at in range(0, len(values), words[0])
                      if not gates.is_spoilt(values[at:at + words[0]]))
         counts = [taken * one for one in _ORIGINAL['count'](words, first)[4]]
-    return number, place, taken, spoilt, counts
+        unclaimed = taken * _ORIGINAL['count'](words, first)[5]
+    return number, place, taken, spoilt, counts, unclaimed
 
 
 # ---------------------------------------------------------------- outlines
@@ -1550,8 +1551,12 @@ PLANTS = {
 
 # ---------------------------------------------------------------- sheets of several lists
 
+# Where the last rows of a sheet stand, behind those of the regions.
+TAKEN, UNCLAIMED, SPOILT, EVENTS = -4, -3, -2, -1
+
+
 def rows_changed(change):
-    """Other rows: by those of a sheet (the regions', taken, spoilt, events) and the number of lists."""
+    """Other rows: by those of a sheet (the regions', taken, unclaimed, spoilt, events) and the number of lists."""
     def faulty(names, parents, tallies, events):
         return change(_ORIGINAL['sheet_rows'](names, parents, tallies, events), len(tallies))
     return {'sheet_rows': faulty}
@@ -1572,8 +1577,8 @@ def shares_changed(change):
     def faulty(names, parents, tallies, events):
         rows = _ORIGINAL['sheet_rows'](names, parents, tallies, events)
         by_name = dict(zip(names, rows))
-        return [row[:2 + len(tallies)] + change(row, rows[-3] if parent == b'-' else by_name[parent], len(tallies))
-                for row, parent in zip(rows, parents)] + rows[-3:]
+        return [row[:2 + len(tallies)] + change(row, rows[TAKEN] if parent == b'-' else by_name[parent], len(tallies))
+                for row, parent in zip(rows, parents)] + rows[TAKEN:]
     return {'sheet_rows': faulty}
 
 
@@ -1589,15 +1594,16 @@ def total_changed(change):
 
 def added(tallies):
     """One tally of several."""
-    return (sum(taken for taken, _, _ in tallies), sum(spoilt for _, spoilt, _ in tallies),
-            [sum(counts) for counts in zip(*[counts for _, _, counts in tallies])] if tallies else [0] * gates.REGIONS)
+    return (sum(taken for taken, _, _, _ in tallies), sum(spoilt for _, spoilt, _, _ in tallies),
+            [sum(counts) for counts in zip(*[counts for _, _, counts, _ in tallies])] if tallies else [0] * gates.REGIONS,
+            sum(unclaimed for _, _, _, unclaimed in tallies))
 
 
 def without_parent(change):
     """Another row of each region without a parent: by its row and the number of events."""
     def faulty(names, parents, tallies, events):
         rows = _ORIGINAL['sheet_rows'](names, parents, tallies, events)
-        return [change(row, events) if parent == b'-' else row for row, parent in zip(rows, parents)] + rows[-3:]
+        return [change(row, events) if parent == b'-' else row for row, parent in zip(rows, parents)] + rows[TAKEN:]
     return {'sheet_rows': faulty}
 
 
@@ -1649,7 +1655,7 @@ def in_step_order(names, parents, tallies, events):
     depth = {b'-': 0}
     while len(depth) <= len(names):
         depth.update({name: depth[parent] + 1 for name, parent in zip(names, parents) if parent in depth})
-    return sorted(rows[:-3], key=lambda row: depth[row[0]]) + rows[-3:]
+    return sorted(rows[:TAKEN], key=lambda row: depth[row[0]]) + rows[TAKEN:]
 
 
 def reduced(count, whole):
@@ -1662,7 +1668,7 @@ def per_list(row, whole, lists):
 
 
 def is_refusal(output):
-    """A sheet has three lines at least."""
+    """A sheet has four lines at least."""
     return output.count(b'\n') == 1
 
 
@@ -1682,12 +1688,12 @@ def values_for_events(output, data):
 
 def spaces_before_shares(output, data):
     lines = output.split(b'\n')
-    return b'\n'.join([b' '.join(line.rsplit(b'\t', 2)) for line in lines[:-4]] + lines[-4:])
+    return b'\n'.join([b' '.join(line.rsplit(b'\t', 2)) for line in lines[:-5]] + lines[-5:])
 
 
 def empty_line_before_taken(output, data):
     lines = output.split(b'\n')
-    return b'\n'.join(lines[:-4] + [b''] + lines[-4:])
+    return b'\n'.join(lines[:-5] + [b''] + lines[-5:])
 
 
 def parted(change):
@@ -1859,7 +1865,7 @@ SHEET_PLANTS = {
     'sheet-first-columns-exchanged': columns_changed(lambda columns: columns[1::-1] + columns[2:]),
     'sheet-last-columns-exchanged': columns_changed(lambda columns: columns[:-2] + columns[-2:][::-1]),
     'sheet-counts-one-column-late': rows_changed(lambda rows, lists: [
-        row[:1] + row[1:1 + lists][-1:] + row[1:1 + lists][:-1] + row[1 + lists:] for row in rows[:-3]] + rows[-3:]),
+        row[:1] + row[1:1 + lists][-1:] + row[1:1 + lists][:-1] + row[1 + lists:] for row in rows[:TAKEN]] + rows[TAKEN:]),
     'sheet-spoilt-one-column-late': rows_changed(lambda rows, lists: rows[:-2] + [
         rows[-2][:1] + rows[-2][1:1 + lists][-1:] + rows[-2][1:1 + lists][:-1] + rows[-2][1 + lists:]] + rows[-1:]),
     'sheet-columns-added-up': columns_changed(lambda columns: list(itertools.accumulate(columns))),
@@ -1901,14 +1907,14 @@ SHEET_PLANTS = {
         row[:1] + [row[1 + lists]] + row[1:1 + lists] + row[2 + lists:] for row in rows[:-1]] + rows[-1:]),
     'sheet-sum-left-out': rows_changed(lambda rows, lists: [row[:1 + lists] + row[2 + lists:] for row in rows[:-1]] + rows[-1:]),
     'sheet-one-list-without-sum': rows_changed(lambda rows, lists: [row[:2] + row[3:] if lists == 1 else row for row in rows[:-1]] + rows[-1:]),
-    'sheet-sum-of-taken-with-spoilt': rows_changed(lambda rows, lists: rows[:-3] + [rows[-3][:-1] + [rows[-1][1]]] + rows[-2:]),
+    'sheet-sum-of-taken-with-spoilt': rows_changed(lambda rows, lists: rows[:TAKEN] + [rows[TAKEN][:-1] + [rows[EVENTS][1]]] + rows[UNCLAIMED:]),
     'sheet-sum-of-spoilt-left-out': rows_changed(lambda rows, lists: rows[:-2] + [rows[-2][:-1]] + rows[-1:]),
     # Shares.
     'sheet-share-left-out': shares_changed(lambda row, whole, lists: []),
     'sheet-share-without-count': shares_changed(lambda row, whole, lists: [whole[1 + lists]]),
     'sheet-share-without-parent': shares_changed(lambda row, whole, lists: [row[1 + lists]]),
     'sheet-share-exchanged': shares_changed(lambda row, whole, lists: [whole[1 + lists], row[1 + lists]]),
-    'sheet-share-before-sum': rows_changed(lambda rows, lists: [row[:1 + lists] + row[2 + lists:] + [row[1 + lists]] for row in rows[:-3]] + rows[-3:]),
+    'sheet-share-before-sum': rows_changed(lambda rows, lists: [row[:1 + lists] + row[2 + lists:] + [row[1 + lists]] for row in rows[:TAKEN]] + rows[TAKEN:]),
     'sheet-share-reduced': shares_changed(lambda row, whole, lists: reduced(row[1 + lists], whole[1 + lists])),
     'sheet-share-in-percent': shares_changed(lambda row, whole, lists: [100 * row[1 + lists] // (whole[1 + lists] or 1)]),
     'sheet-share-of-first-list': shares_changed(lambda row, whole, lists: [row[1], whole[1]]),
@@ -1928,21 +1934,20 @@ SHEET_PLANTS = {
     'sheet-quadrant-without-parent': other_parents(lambda gate, table_gates: b'-' if gate.kind == b'quad' else gate.parent),
     'sheet-quadrant-share-of-first-quadrant': other_parents(lambda gate, table_gates: gate.quadrants[0][0] if gate.kind == b'quad' else gate.parent),
     'sheet-parents-by-gate': {'region_parents': parents_by_gate},
-    'sheet-share-for-taken': rows_changed(lambda rows, lists: rows[:-3] + [rows[-3] + [rows[-3][-1], rows[-1][1]]] + rows[-2:]),
+    'sheet-share-for-taken': rows_changed(lambda rows, lists: rows[:TAKEN] + [rows[TAKEN] + [rows[TAKEN][-1], rows[EVENTS][1]]] + rows[UNCLAIMED:]),
     'sheet-share-for-spoilt': rows_changed(lambda rows, lists: rows[:-2] + [rows[-2] + [rows[-2][-1], rows[-1][1]]] + rows[-1:]),
     # Lines.
-    'sheet-spoilt-before-taken': rows_changed(lambda rows, lists: rows[:-3] + [rows[-2], rows[-3], rows[-1]]),
+    'sheet-spoilt-before-taken': rows_changed(lambda rows, lists: rows[:TAKEN] + [rows[SPOILT], rows[TAKEN], rows[UNCLAIMED], rows[EVENTS]]),
     'sheet-spoilt-left-out': rows_changed(lambda rows, lists: rows[:-2] + rows[-1:]),
-    'sheet-taken-first': rows_changed(lambda rows, lists: [rows[-3], rows[-2]] + rows[:-3] + rows[-1:]),
+    'sheet-taken-first': rows_changed(lambda rows, lists: rows[TAKEN:EVENTS] + rows[:TAKEN] + rows[EVENTS:]),
     'sheet-events-first': rows_changed(lambda rows, lists: rows[-1:] + rows[:-1]),
     'sheet-events-before-spoilt': rows_changed(lambda rows, lists: rows[:-2] + [rows[-1], rows[-2]]),
     'sheet-events-left-out': rows_changed(lambda rows, lists: rows[:-1]),
     'sheet-events-laid-out-alike': rows_changed(lambda rows, lists: rows[:-1] + [
-        [b'events'] + [one + other for one, other in zip(rows[-3][1:], rows[-2][1:])]]),
+        [b'events'] + [one + other for one, other in zip(rows[TAKEN][1:], rows[SPOILT][1:])]]),
     'sheet-events-twice': rows_changed(lambda rows, lists: rows[:-1] + [rows[-1] + rows[-1][1:]]),
     'sheet-parents-first': {'sheet_rows': in_step_order},
-    'sheet-names-sorted': rows_changed(lambda rows, lists: sorted(rows[:-3], key=lambda row: row[0]) + rows[-3:]),
-    'sheet-unclaimed-printed': rows_changed(lambda rows, lists: rows[:-2] + [[b'unclaimed'] + [0] * (lists + 1)] + rows[-2:]),
+    'sheet-names-sorted': rows_changed(lambda rows, lists: sorted(rows[:TAKEN], key=lambda row: row[0]) + rows[TAKEN:]),
     'sheet-zero-left-blank': {'printed_line': lambda name, *numbers: b'\t'.join(
         [name] + [b'%d' % number if number or len(numbers) < 2 else b'' for number in numbers]) + b'\n'},
     'sheet-tab-at-the-end': printed_otherwise(lambda output, data: output.replace(b'\n', b'\t\n')),
@@ -1952,10 +1957,10 @@ SHEET_PLANTS = {
     'sheet-cr-at-the-end': printed_otherwise(lambda output, data: output.replace(b'\n', b'\r\n')),
     'sheet-empty-line-before-taken': printed_otherwise(empty_line_before_taken),
     # The total.
-    'sheet-total-of-taken': total_changed(lambda rows, lists: rows[-3][-1]),
-    'sheet-total-of-spoilt': total_changed(lambda rows, lists: rows[-2][-1]),
-    'sheet-total-of-first-list': total_changed(lambda rows, lists: rows[-3][1] + rows[-2][1]),
-    'sheet-total-of-last-list': total_changed(lambda rows, lists: rows[-3][max(lists, 1)] + rows[-2][max(lists, 1)]),
+    'sheet-total-of-taken': total_changed(lambda rows, lists: rows[TAKEN][-1]),
+    'sheet-total-of-spoilt': total_changed(lambda rows, lists: rows[SPOILT][-1]),
+    'sheet-total-of-first-list': total_changed(lambda rows, lists: rows[TAKEN][1] + rows[SPOILT][1]),
+    'sheet-total-of-last-list': total_changed(lambda rows, lists: rows[TAKEN][max(lists, 1)] + rows[SPOILT][max(lists, 1)]),
     'sheet-total-of-lists': total_changed(lambda rows, lists: lists),
     'sheet-total-with-events-lines': total_changed(lambda rows, lists: rows[-1][1] + lists),
     'sheet-total-of-values': printed_otherwise(values_for_events),
@@ -1999,6 +2004,216 @@ SHEET_PLANTS = {
     'sheet-long-table-taken': {'gatesheet': long_table_taken},
 }
 PLANTS.update(SHEET_PLANTS)
+
+
+# ---------------------------------------------------------------- unclaimed events
+
+def events_of(words, values):
+    return [values[at:at + words[0]] for at in range(0, len(values), words[0])]
+
+
+def unclaimed_counted(counted):
+    """Another number of unclaimed events: by the words, the events and the tally (taken, spoilt, counts, unclaimed) of a count that isn't refused."""
+    def faulty(words, values):
+        number, place, *tally = _ORIGINAL['count'](words, values)
+        if number == 0:
+            tally[3] = counted(words, events_of(words, values), tally)
+        return number, place, *tally
+    return {'count': faulty}
+
+
+def unclaimed_where(unclaimed):
+    """Other events taken for unclaimed: by the bits of each event taken, the number of regions, the steps and the event."""
+    def counted(words, events, tally):
+        steps = gates.plan_steps(words)
+        return sum(1 for event in events if not gates.is_spoilt(event) and unclaimed(gates.event_bits(steps, event), words[1], steps, event))
+    return unclaimed_counted(counted)
+
+
+def unclaimed_without(looked_at):
+    """Some regions claim nobody: by each step and all steps, whether the region of the step is looked at."""
+    return unclaimed_where(lambda bits, regions, steps, event: not any(bits >> step[1] & 1 for step in steps if looked_at(step, steps)))
+
+
+def unclaimed_last_event(words, events, tally):
+    """The answer of the last event taken, not added to those before."""
+    taken = [event for event in events if not gates.is_spoilt(event)]
+    return int(taken != [] and gates.event_bits(gates.plan_steps(words), taken[-1]) == 0)
+
+
+def unclaimed_until_claimed(words, events, tally):
+    """The bits not begun anew with each event."""
+    steps, bits, unclaimed = gates.plan_steps(words), 0, 0
+    for event in [event for event in events if not gates.is_spoilt(event)]:
+        bits |= gates.event_bits(steps, event)
+        unclaimed += bits == 0
+    return unclaimed
+
+
+def bits_kept_by_spoilt(words, events, tally):
+    """A spoilt event judged like the event before it."""
+    steps, bits, unclaimed = gates.plan_steps(words), 0, 0
+    for event in events:
+        bits = bits if gates.is_spoilt(event) else gates.event_bits(steps, event)
+        unclaimed += bits == 0
+    return unclaimed
+
+
+def first_answer_for_all(words, events, tally):
+    first = next((event for event in events if not gates.is_spoilt(event)), None)
+    return tally[0] if first is not None and gates.event_bits(gates.plan_steps(words), first) == 0 else 0
+
+
+def refused_with_unclaimed(refused, unclaimed):
+    """A refused count that isn't zero at its end: by the words and the values."""
+    def faulty(words, values):
+        number, place, *tally = _ORIGINAL['count'](words, values)
+        if number == refused:
+            tally[3] = unclaimed(words, values)
+        return number, place, *tally
+    return {'count': faulty}
+
+
+def unclaimed_of_whole_events(words, values):
+    return _ORIGINAL['count'](words, values[:len(values) // words[0] * words[0]])[5]
+
+
+def before_the_counts(words, values):
+    """A row with the unclaimed before the 64 counts."""
+    number, place, taken, spoilt, counts, unclaimed = _ORIGINAL['count'](words, values)
+    return number, place, taken, spoilt, [unclaimed] + counts[:-1], counts[-1]
+
+
+def unclaimed_changed(change):
+    """Another row of the unclaimed: by all rows and the number of lists."""
+    return rows_changed(lambda rows, lists: rows[:UNCLAIMED] + [change(rows, lists)] + rows[SPOILT:])
+
+
+def unclaimed_columns(change):
+    return unclaimed_changed(lambda rows, lists: [b'unclaimed', *change(rows[UNCLAIMED][1:1 + lists]), rows[UNCLAIMED][-1]])
+
+
+def unclaimed_printed_if(told):
+    """The row left out where this isn't so: by all rows and the number of lists."""
+    return rows_changed(lambda rows, lists: rows if told(rows, lists) else rows[:UNCLAIMED] + rows[SPOILT:])
+
+
+def shares_of_the_claimed(names, parents, tallies, events):
+    """Without a parent a share of the taken that are members of some region."""
+    rows = _ORIGINAL['sheet_rows'](names, parents, tallies, events)
+    return [row[:-1] + [row[-1] - rows[UNCLAIMED][-1]] if parent == b'-' else row for row, parent in zip(rows, parents)] + rows[TAKEN:]
+
+
+def unclaimed_by_gatecount(at):
+    """`gatecount` prints the unclaimed too, before the line with this number."""
+    def faulty(data):
+        output, sheet = _ORIGINAL['gatecount'](data), _ORIGINAL['gatesheet'](data)
+        if output.count(b'\n') < 2:
+            return output
+        lines = output.split(b'\n')
+        return b'\n'.join(lines[:at] + [b'unclaimed\t' + sheet.split(b'\n')[-4].rsplit(b'\t', 1)[1]] + lines[at:])
+    return {'gatecount': faulty}
+
+
+UNCLAIMED_PLANTS = {
+    # Which events, in each count.
+    'unclaimed-with-spoilt': unclaimed_counted(lambda words, events, tally: tally[3] + tally[1]),
+    'unclaimed-spoilt-alone': unclaimed_counted(lambda words, events, tally: tally[1]),
+    'unclaimed-with-spoilt-without-regions': unclaimed_counted(lambda words, events, tally: tally[3] if words[1] else tally[0] + tally[1]),
+    'unclaimed-bits-kept-by-spoilt': unclaimed_counted(bits_kept_by_spoilt),
+    'unclaimed-0-without-regions': unclaimed_counted(lambda words, events, tally: tally[3] if words[1] else 0),
+    'unclaimed-always-0': unclaimed_counted(lambda words, events, tally: 0),
+    'unclaimed-always-taken': unclaimed_counted(lambda words, events, tally: tally[0]),
+    'unclaimed-are-the-claimed': unclaimed_counted(lambda words, events, tally: tally[0] - tally[3]),
+    'unclaimed-for-each-region': unclaimed_counted(lambda words, events, tally: tally[3] * words[1] if words[1] else tally[3]),
+    'unclaimed-for-each-region-that-lacks-it': unclaimed_counted(lambda words, events, tally: tally[0] * words[1] - sum(tally[2]) if words[1] else tally[3]),
+    'unclaimed-for-each-of-64-that-lack-it': unclaimed_counted(lambda words, events, tally: tally[0] * 64 - sum(tally[2])),
+    'unclaimed-taken-less-all-counts': unclaimed_counted(lambda words, events, tally: max(0, tally[0] - sum(tally[2]))),
+    'unclaimed-taken-less-largest-count': unclaimed_counted(lambda words, events, tally: tally[0] - max(tally[2])),
+    'unclaimed-taken-less-first-count': unclaimed_counted(lambda words, events, tally: tally[0] - tally[2][0]),
+    'unclaimed-taken-less-last-count': unclaimed_counted(lambda words, events, tally: tally[0] - tally[2][words[1] - 1]),
+    'unclaimed-not-in-every-region': unclaimed_where(lambda bits, regions, steps, event: bits != (1 << regions) - 1 or regions == 0),
+    'unclaimed-not-in-last-step': unclaimed_where(lambda bits, regions, steps, event: not steps or not bits >> steps[-1][1] & 1),
+    'unclaimed-in-first-region-alone': unclaimed_where(lambda bits, regions, steps, event: bits & ~1 == 0),
+    'unclaimed-in-last-region-alone': unclaimed_where(lambda bits, regions, steps, event: bits & ~(1 << regions >> 1) == 0),
+    'unclaimed-in-first-step-alone': unclaimed_without(lambda step, steps: step is not steps[0]),
+    'unclaimed-in-last-step-alone': unclaimed_without(lambda step, steps: step is not steps[-1]),
+    'unclaimed-in-one-region-alone': unclaimed_where(lambda bits, regions, steps, event: bits & bits - 1 == 0),
+    'unclaimed-in-two-regions': unclaimed_where(lambda bits, regions, steps, event: bits == 0 or bin(bits).count('1') == 2),
+    'unclaimed-by-31-bits': unclaimed_where(lambda bits, regions, steps, event: bits % 2 ** 31 == 0),
+    'unclaimed-by-32-bits': unclaimed_where(lambda bits, regions, steps, event: bits % 2 ** 32 == 0),
+    'unclaimed-by-63-bits': unclaimed_where(lambda bits, regions, steps, event: bits % 2 ** 63 == 0),
+    'unclaimed-by-upper-32-bits': unclaimed_where(lambda bits, regions, steps, event: bits >> 32 == 0 if regions > 32 else bits == 0),
+    'unclaimed-not-above-0': unclaimed_where(lambda bits, regions, steps, event: bits == 0 or bits >> 63 == 1),
+    'unclaimed-by-doubles': unclaimed_where(lambda bits, regions, steps, event: bits % 2 ** 53 == 0),
+    'unclaimed-by-shape-without-parent': unclaimed_where(lambda bits, regions, steps, event: gates.event_bits(
+        [(kind, region, -1, body) for kind, region, _, body in steps], event) == 0),
+    'unclaimed-complements-claim-all': unclaimed_where(lambda bits, regions, steps, event: bits == 0 and all(
+        kind not in gates.COMBINATIONS or all(word % 2 == 0 for word in body) for kind, _, _, body in steps)),
+    'unclaimed-combinations-claim-none': unclaimed_without(lambda step, steps: step[0] not in gates.COMBINATIONS),
+    'unclaimed-and-claims-none': unclaimed_without(lambda step, steps: step[0] != gates.AND),
+    'unclaimed-or-claims-none': unclaimed_without(lambda step, steps: step[0] != gates.OR),
+    'unclaimed-not-claims-none': unclaimed_without(lambda step, steps: step[0] != gates.NOT),
+    'unclaimed-complement-claims-none': unclaimed_without(lambda step, steps: step[0] not in gates.COMBINATIONS or all(word % 2 == 0 for word in step[3])),
+    'unclaimed-boxes-claim-none': unclaimed_without(lambda step, steps: step[0] != gates.BOX),
+    'unclaimed-polygons-claim-none': unclaimed_without(lambda step, steps: step[0] != gates.POLYGON),
+    'unclaimed-ellipses-claim-none': unclaimed_without(lambda step, steps: step[0] != gates.ELLIPSE),
+    'unclaimed-decimal-ellipses-claim-none': unclaimed_without(lambda step, steps: step[0] != gates.DECIMAL_ELLIPSE),
+    'unclaimed-ellipsoids-claim-none': unclaimed_without(lambda step, steps: step[0] != gates.ELLIPSOID),
+    'unclaimed-children-alone-claim': unclaimed_without(lambda step, steps: step[2] != -1),
+    'unclaimed-parents-claim-none': unclaimed_without(lambda step, steps: all(step[1] != other[2] for other in steps)),
+    'unclaimed-operands-claim-none': unclaimed_without(lambda step, steps: all(
+        other[0] not in gates.COMBINATIONS or step[1] not in [word // 2 for word in other[3]] for other in steps)),
+    'unclaimed-on-outlines': unclaimed_where(lambda bits, regions, steps, event: bits & ~gates.outline_bits(steps, event, bits) == 0),
+    'unclaimed-first-answer-for-all': unclaimed_counted(first_answer_for_all),
+    'unclaimed-of-last-event': unclaimed_counted(unclaimed_last_event),
+    'unclaimed-until-one-is-claimed': unclaimed_counted(unclaimed_until_claimed),
+    'unclaimed-values': unclaimed_counted(lambda words, events, tally: tally[3] * words[0]),
+    'unclaimed-one-more': unclaimed_counted(lambda words, events, tally: tally[3] + 1),
+    'unclaimed-at-most-1': unclaimed_counted(lambda words, events, tally: min(tally[3], 1)),
+    'unclaimed-in-8-bits': unclaimed_counted(lambda words, events, tally: tally[3] % 256),
+    'unclaimed-in-6-bits': unclaimed_counted(lambda words, events, tally: tally[3] % 64),
+    # A refused count, and the row.
+    'unclaimed-kept-where-ragged': refused_with_unclaimed(23, unclaimed_of_whole_events),
+    'unclaimed-kept-where-malformed': refused_with_unclaimed(22, lambda words, values: len(values) // words[0] if words and 1 <= words[0] <= 8 else 0),
+    'unclaimed-place-where-ragged': refused_with_unclaimed(23, lambda words, values: len(values)),
+    'unclaimed-before-the-counts': {'count': before_the_counts},
+    # The sheet.
+    'unclaimed-left-out': unclaimed_printed_if(lambda rows, lists: False),
+    'unclaimed-0-left-out': unclaimed_printed_if(lambda rows, lists: rows[UNCLAIMED][-1] != 0),
+    'unclaimed-left-out-without-regions': unclaimed_printed_if(lambda rows, lists: len(rows) > 4),
+    'unclaimed-left-out-without-lists': unclaimed_printed_if(lambda rows, lists: lists > 0),
+    'unclaimed-left-out-beside-a-region-so-called': unclaimed_printed_if(lambda rows, lists: b'unclaimed' not in [row[0] for row in rows[:TAKEN]]),
+    'unclaimed-after-spoilt': rows_changed(lambda rows, lists: rows[:UNCLAIMED] + [rows[SPOILT], rows[UNCLAIMED], rows[EVENTS]]),
+    'unclaimed-before-taken': rows_changed(lambda rows, lists: rows[:TAKEN] + [rows[UNCLAIMED], rows[TAKEN]] + rows[SPOILT:]),
+    'unclaimed-after-events': rows_changed(lambda rows, lists: rows[:UNCLAIMED] + rows[SPOILT:] + [rows[UNCLAIMED]]),
+    'unclaimed-before-regions': rows_changed(lambda rows, lists: [rows[UNCLAIMED]] + rows[:UNCLAIMED] + rows[SPOILT:]),
+    'unclaimed-twice': rows_changed(lambda rows, lists: rows[:SPOILT] + [rows[UNCLAIMED]] + rows[SPOILT:]),
+    'unclaimed-otherwise-called': unclaimed_changed(lambda rows, lists: [b'Unclaimed'] + rows[UNCLAIMED][1:]),
+    'unclaimed-without-sum': unclaimed_changed(lambda rows, lists: rows[UNCLAIMED][:1 + lists]),
+    'unclaimed-without-sum-of-one-list': unclaimed_changed(lambda rows, lists: rows[UNCLAIMED][:2] if lists == 1 else rows[UNCLAIMED]),
+    'unclaimed-sum-alone': unclaimed_changed(lambda rows, lists: [b'unclaimed', rows[UNCLAIMED][-1]]),
+    'unclaimed-sum-0': unclaimed_changed(lambda rows, lists: rows[UNCLAIMED][:-1] + [0]),
+    'unclaimed-sum-of-first-list': unclaimed_changed(lambda rows, lists: rows[UNCLAIMED][:-1] + rows[UNCLAIMED][1:2]),
+    'unclaimed-sum-of-last-list': unclaimed_changed(lambda rows, lists: rows[UNCLAIMED][:-1] + [rows[UNCLAIMED][max(lists, 1)]]),
+    'unclaimed-sum-without-first-list': unclaimed_changed(lambda rows, lists: rows[UNCLAIMED][:-1] + [sum(rows[UNCLAIMED][2:1 + lists])]),
+    'unclaimed-sum-without-last-list': unclaimed_changed(lambda rows, lists: rows[UNCLAIMED][:-1] + [sum(rows[UNCLAIMED][1:max(lists, 1)])]),
+    'unclaimed-sum-before-columns': unclaimed_changed(lambda rows, lists: [b'unclaimed', rows[UNCLAIMED][-1], *rows[UNCLAIMED][1:-1]]),
+    'unclaimed-with-share': unclaimed_changed(lambda rows, lists: rows[UNCLAIMED] + [rows[UNCLAIMED][-1], rows[TAKEN][-1]]),
+    'unclaimed-columns-reversed': unclaimed_columns(lambda columns: columns[::-1]),
+    'unclaimed-one-column-late': unclaimed_columns(lambda columns: columns[-1:] + columns[:-1]),
+    'unclaimed-not-begun-anew': unclaimed_columns(lambda columns: list(itertools.accumulate(columns))),
+    'unclaimed-not-taken': rows_changed(lambda rows, lists: rows[:TAKEN] + [
+        [b'taken'] + [taken - unclaimed for taken, unclaimed in zip(rows[TAKEN][1:], rows[UNCLAIMED][1:])]] + rows[UNCLAIMED:]),
+    'unclaimed-among-spoilt': rows_changed(lambda rows, lists: rows[:SPOILT] + [
+        [b'spoilt'] + [spoilt + unclaimed for spoilt, unclaimed in zip(rows[SPOILT][1:], rows[UNCLAIMED][1:])]] + rows[EVENTS:]),
+    'unclaimed-in-total': total_changed(lambda rows, lists: rows[EVENTS][1] + rows[UNCLAIMED][-1]),
+    'unclaimed-no-part-of-shares': {'sheet_rows': shares_of_the_claimed},
+    # gatecount, which prints what it printed.
+    'unclaimed-in-gatecount': unclaimed_by_gatecount(-2),
+    'unclaimed-in-gatecount-at-the-end': unclaimed_by_gatecount(-1),
+}
+PLANTS.update(UNCLAIMED_PLANTS)
 
 
 @contextlib.contextmanager

@@ -4,9 +4,9 @@
     tests/reference/selftest.py [--seed S] [--tables N]
 
 First come the examples that 01 prints and small cases at each of its rules, and at those of
-02 a on outlines, 02 b on decimals, 02 d on ellipsoids and 02 e on sheets; then, for random tables, the
-plan against the lines, other orders of lines, sums of quadrants, sheets against counts, and other ways
-of reckoning the same thing.  The last line is "N passed, M failed".
+02 a on outlines, 02 b on decimals, 02 d on ellipsoids, 02 e on sheets and 02 f on unclaimed events; then,
+for random tables, the plan against the lines, other orders of lines, sums of quadrants, sheets against
+counts, and other ways of reckoning the same thing.  The last line is "N passed, M failed".
 """
 
 import argparse
@@ -965,11 +965,11 @@ def plans():
     check('malformed before ragged', gates.judge(EXAMPLE_PLAN[:7], []), (22, 7, 0, 0))
     check('long before all', gates.judge([0] * 4097, []), (21, 0, 0, 0))
     zeros = [0] * 64
-    check('counting', gates.count(EXAMPLE_PLAN, [600, 200, 70000, 0]), (0, 0, 1, 1, [0, 1, 0, 1] + [0] * 60))
-    check('counting a ragged list', gates.count(EXAMPLE_PLAN, [600, 200, 1]), (23, 3, 0, 0, zeros))
-    check('counting an empty list', gates.count(EXAMPLE_PLAN, []), (0, 0, 0, 0, zeros))
-    check('counting by a bad plan', gates.count(EXAMPLE_PLAN[:-1], [1]), (22, 40, 0, 0, zeros))
-    check('counting by a long plan', gates.count([1] * 4097, [1]), (21, 0, 0, 0, zeros))
+    check('counting', gates.count(EXAMPLE_PLAN, [600, 200, 70000, 0]), (0, 0, 1, 1, [0, 1, 0, 1] + [0] * 60, 0))
+    check('counting a ragged list', gates.count(EXAMPLE_PLAN, [600, 200, 1]), (23, 3, 0, 0, zeros, 0))
+    check('counting an empty list', gates.count(EXAMPLE_PLAN, []), (0, 0, 0, 0, zeros, 0))
+    check('counting by a bad plan', gates.count(EXAMPLE_PLAN[:-1], [1]), (22, 40, 0, 0, zeros, 0))
+    check('counting by a long plan', gates.count([1] * 4097, [1]), (21, 0, 0, 0, zeros, 0))
 
 
 # ---------------------------------------------------------------- gatecount
@@ -1033,54 +1033,62 @@ def several_lists():
     table = tabs('dims A', 'rect X - A 0 10', 'rect Y X A 5 20')
     two = tabs('dims A B')
 
-    # A line per region: name, each list, the sum, then the count again and the parent's or the taken (e1); taken, spoilt, events (e2, e6).
+    # A line per region: name, each list, the sum, then the count again and the parent's or the taken (e1); taken, unclaimed (f2), spoilt,
+    # events (e2, e6).
     example, first, third = tabs(*EXAMPLE), ('600 200', '400 375'), ('599 200', '400 376', '350 200', '70000 0')
     sheets('01\'s example in three lists', example + tabs('events', *first, 'events', 'events', *third),
-           'Live 1 0 2 3 3 4', 'Ring 2 0 2 4 4 5', 'Lo 0 0 1 1 1 4', 'Hi 2 0 1 3 3 4', 'Both 0 0 1 1 1 5', 'taken 2 0 3 5', 'spoilt 0 0 1 1', 'events 6')
+           'Live 1 0 2 3 3 4', 'Ring 2 0 2 4 4 5', 'Lo 0 0 1 1 1 4', 'Hi 2 0 1 3 3 4', 'Both 0 0 1 1 1 5', 'taken 2 0 3 5',
+           'unclaimed 0 0 1 1', 'spoilt 0 0 1 1', 'events 6')
     sheets('01\'s example in one list', example + tabs('events', *first, *third),
-           'Live 3 3 3 4', 'Ring 4 4 4 5', 'Lo 1 1 1 4', 'Hi 3 3 3 4', 'Both 1 1 1 5', 'taken 5 5', 'spoilt 1 1', 'events 6')
+           'Live 3 3 3 4', 'Ring 4 4 4 5', 'Lo 1 1 1 4', 'Hi 3 3 3 4', 'Both 1 1 1 5', 'taken 5 5', 'unclaimed 1 1', 'spoilt 1 1', 'events 6')
     sheets('01\'s example, the lists exchanged', example + tabs('events', *third, 'events', *first),
-           'Live 2 1 3 3 4', 'Ring 2 2 4 4 5', 'Lo 1 0 1 1 4', 'Hi 1 2 3 3 4', 'Both 1 0 1 1 5', 'taken 3 2 5', 'spoilt 1 0 1', 'events 6')
-    sheets('01\'s example without a list', example, 'Live 0 0 0', 'Ring 0 0 0', 'Lo 0 0 0', 'Hi 0 0 0', 'Both 0 0 0', 'taken 0', 'spoilt 0', 'events 0')
+           'Live 2 1 3 3 4', 'Ring 2 2 4 4 5', 'Lo 1 0 1 1 4', 'Hi 1 2 3 3 4', 'Both 1 0 1 1 5', 'taken 3 2 5', 'unclaimed 1 0 1',
+           'spoilt 1 0 1', 'events 6')
+    sheets('01\'s example without a list', example, 'Live 0 0 0', 'Ring 0 0 0', 'Lo 0 0 0', 'Hi 0 0 0', 'Both 0 0 0', 'taken 0', 'unclaimed 0', 'spoilt 0',
+           'events 0')
     sheets('two lists', table + tabs('events', '1', '7', 'events', '7', '30', '70000'),
-           'X 2 1 3 3 4', 'Y 1 1 2 2 3', 'taken 2 2 4', 'spoilt 0 1 1', 'events 5')
+           'X 2 1 3 3 4', 'Y 1 1 2 2 3', 'taken 2 2 4', 'unclaimed 0 1 1', 'spoilt 0 1 1', 'events 5')
     sheets('the parent below', tabs('dims A', 'rect Y X A 5 20', 'rect X - A 0 10', 'events', '1', '7', 'events', '7', '30', '70000'),
-           'Y 1 1 2 2 3', 'X 2 1 3 3 4', 'taken 2 2 4', 'spoilt 0 1 1', 'events 5')
+           'Y 1 1 2 2 3', 'X 2 1 3 3 4', 'taken 2 2 4', 'unclaimed 0 1 1', 'spoilt 0 1 1', 'events 5')
     sheets('a share of the parent, not of its parent', table + tabs('rect Z Y A 6 9', 'events', '1', '5', '6', 'events', '8', '9', '30', 'events', '0'),
-           'X 3 2 1 6 6 7', 'Y 2 2 0 4 4 6', 'Z 1 1 0 2 2 4', 'taken 3 3 1 7', 'spoilt 0 0 0 0', 'events 7')
-    sheets('never divided', table + tabs('events', '1', '7', 'events', '2', '8'), 'X 2 2 4 4 4', 'Y 1 1 2 2 4', 'taken 2 2 4', 'spoilt 0 0 0', 'events 4')
+           'X 3 2 1 6 6 7', 'Y 2 2 0 4 4 6', 'Z 1 1 0 2 2 4', 'taken 3 3 1 7', 'unclaimed 0 1 0 1', 'spoilt 0 0 0 0', 'events 7')
+    sheets('never divided', table + tabs('events', '1', '7', 'events', '2', '8'), 'X 2 2 4 4 4', 'Y 1 1 2 2 4', 'taken 2 2 4', 'unclaimed 0 0 0',
+           'spoilt 0 0 0', 'events 4')
     sheets('a parent without members', table + tabs('events', '30', 'events', '40', '-1'),
-           'X 0 0 0 0 3', 'Y 0 0 0 0 0', 'taken 1 2 3', 'spoilt 0 0 0', 'events 3')
+           'X 0 0 0 0 3', 'Y 0 0 0 0 0', 'taken 1 2 3', 'unclaimed 1 2 3', 'spoilt 0 0 0', 'events 3')
     sheets('operands are no parents', table + tabs('not N - X', 'not M X Y', 'and B - X Y', 'or O X Y Y', 'events', '1', '30', 'events', '7', '70000'),
-           'X 1 1 2 2 3', 'Y 0 1 1 1 2', 'N 1 0 1 1 3', 'M 1 0 1 1 2', 'B 0 1 1 1 3', 'O 0 1 1 1 2', 'taken 2 1 3', 'spoilt 0 1 1', 'events 4')
+           'X 1 1 2 2 3', 'Y 0 1 1 1 2', 'N 1 0 1 1 3', 'M 1 0 1 1 2', 'B 0 1 1 1 3', 'O 0 1 1 1 2', 'taken 2 1 3', 'unclaimed 0 0 0',
+           'spoilt 0 1 1', 'events 4')
     sheets('names that are no words', tabs('dims events', 'rect taken - events 0 5', 'rect events taken events 1 9', 'rect spoilt - events * *', 'events', '1',
                                           'events', '7'),
-           'taken 1 0 1 1 2', 'events 1 0 1 1 1', 'spoilt 1 1 2 2 2', 'taken 1 1 2', 'spoilt 0 0 0', 'events 2')
-    sheets('a region called refused', tabs('dims A', 'rect refused - A 0 5', 'events', '1'), 'refused 1 1 1 1', 'taken 1 1', 'spoilt 0 0', 'events 1')
+           'taken 1 0 1 1 2', 'events 1 0 1 1 1', 'spoilt 1 1 2 2 2', 'taken 1 1 2', 'unclaimed 0 0 0', 'spoilt 0 0 0', 'events 2')
+    sheets('a region called refused', tabs('dims A', 'rect refused - A 0 5', 'events', '1'), 'refused 1 1 1 1', 'taken 1 1', 'unclaimed 0 0', 'spoilt 0 0',
+           'events 1')
 
     # The parent of a quadrant is its gate's (e5).
     sheets('quadrants', tabs('dims A B', 'rect P - A 0 10', 'quad Q P 1 B 1 5 Lo 0 Hi 9', 'quad R - 1 A 1 5 Left 0 Right 5', 'quad S Lo 1 A 1 3 Sl 0 Sr 3',
                              'rect T Hi A 9 10', 'events', '1 1', '6 9', 'events', '20 1', '4 4', '9 5'),
            'P 2 2 4 4 5', 'Lo 1 1 2 2 4', 'Hi 1 1 2 2 4', 'Left 1 1 2 2 5', 'Right 1 2 3 3 5', 'Sl 1 0 1 1 2', 'Sr 0 1 1 1 2', 'T 0 1 1 1 2',
-           'taken 2 3 5', 'spoilt 0 0 0', 'events 5')
+           'taken 2 3 5', 'unclaimed 0 0 0', 'spoilt 0 0 0', 'events 5')
 
     # No line `events`, no list (e3); an empty list has its column (e4).
-    sheets('no list', table, 'X 0 0 0', 'Y 0 0 0', 'taken 0', 'spoilt 0', 'events 0')
-    sheets('no list, a head alone', head, 'taken 0', 'spoilt 0', 'events 0')
+    sheets('no list', table, 'X 0 0 0', 'Y 0 0 0', 'taken 0', 'unclaimed 0', 'spoilt 0', 'events 0')
+    sheets('no list, a head alone', head, 'taken 0', 'unclaimed 0', 'spoilt 0', 'events 0')
     sheets('no list, no last LF', table[:-1], 'refused 2 0')
     sheets('no list, over 32,768', table + b'rect\tZ\t-\tA\t0\t' + b'1' * 40000 + b'\n', 'refused 1 0')
-    sheets('an empty list', table + tabs('events'), 'X 0 0 0 0', 'Y 0 0 0 0', 'taken 0 0', 'spoilt 0 0', 'events 0')
-    sheets('two empty lists, a head alone', head + tabs('events', 'events'), 'taken 0 0 0', 'spoilt 0 0 0', 'events 0')
-    sheets('the first empty', table + tabs('events', 'events', '7'), 'X 0 1 1 1 1', 'Y 0 1 1 1 1', 'taken 0 1 1', 'spoilt 0 0 0', 'events 1')
-    sheets('the last empty', table + tabs('events', '7', 'events'), 'X 1 0 1 1 1', 'Y 1 0 1 1 1', 'taken 1 0 1', 'spoilt 0 0 0', 'events 1')
+    sheets('an empty list', table + tabs('events'), 'X 0 0 0 0', 'Y 0 0 0 0', 'taken 0 0', 'unclaimed 0 0', 'spoilt 0 0', 'events 0')
+    sheets('two empty lists, a head alone', head + tabs('events', 'events'), 'taken 0 0 0', 'unclaimed 0 0 0', 'spoilt 0 0 0', 'events 0')
+    sheets('the first empty', table + tabs('events', 'events', '7'), 'X 0 1 1 1 1', 'Y 0 1 1 1 1', 'taken 0 1 1', 'unclaimed 0 0 0', 'spoilt 0 0 0', 'events 1')
+    sheets('the last empty', table + tabs('events', '7', 'events'), 'X 1 0 1 1 1', 'Y 1 0 1 1 1', 'taken 1 0 1', 'unclaimed 0 0 0', 'spoilt 0 0 0', 'events 1')
     sheets('some empty', one + tabs('events', 'events', '1', 'events', 'events', '2', '11', 'events'), 'X 0 1 0 1 0 2 2 3', 'taken 0 1 0 2 0 3',
-           'spoilt 0 0 0 0 0 0', 'events 3')
+           'unclaimed 0 0 0 1 0 1', 'spoilt 0 0 0 0 0 0', 'events 3')
     for lists in (1000, 9361):
         nothing = ' 0' * (lists + 1)
-        sheets('%d empty lists' % lists, head + b'events\n' * lists, 'taken' + nothing, 'spoilt' + nothing, 'events 0')
+        sheets('%d empty lists' % lists, head + b'events\n' * lists, 'taken' + nothing, 'unclaimed' + nothing, 'spoilt' + nothing, 'events 0')
     longest = head + b'events\n' * 9361
     check('9,361 empty lists below the shortest head', (len(longest), len(longest + b'events\n') > 65536), (65534, True))
-    sheets('9,361 lists and an event', longest + b'0\n', 'taken' + ' 0' * 9360 + ' 1 1', 'spoilt' + ' 0' * 9362, 'events 1')
+    last = ' 0' * 9360 + ' 1 1'
+    sheets('9,361 lists and an event', longest + b'0\n', 'taken' + last, 'unclaimed' + last, 'spoilt' + ' 0' * 9362, 'events 1')
     sheets('9,361 lists and a line without LF', longest + b'0', 'refused 23 9363')
     sheets('9,361 lists and an empty line', longest + b'\n', 'refused 23 9363')
     sheets('9,361 lists and a longer event', longest + b'10\n', 'refused 1 0')
@@ -1088,11 +1096,12 @@ def several_lists():
 
     # Spoilt events; the last line has them too.
     sheets('spoilt in the second list', one + tabs('events', '5', 'events', '65536', '-65537', FORTY, '4294967296', '65535', '-65536'),
-           'X 1 0 1 1 3', 'taken 1 2 3', 'spoilt 0 4 4', 'events 7')
-    sheets('all spoilt', one + tabs('events', FORTY, 'events', '-' + FORTY), 'X 0 0 0 0 0', 'taken 0 0 0', 'spoilt 1 1 2', 'events 2')
+           'X 1 0 1 1 3', 'taken 1 2 3', 'unclaimed 0 2 2', 'spoilt 0 4 4', 'events 7')
+    sheets('all spoilt', one + tabs('events', FORTY, 'events', '-' + FORTY), 'X 0 0 0 0 0', 'taken 0 0 0', 'unclaimed 0 0 0', 'spoilt 1 1 2', 'events 2')
     sheets('one value spoils an event', tabs('dims A B', 'rect X - A 0 10', 'events', '1 70000', '1 1', 'events', '70000 70000'),
-           'X 1 0 1 1 1', 'taken 1 0 1', 'spoilt 1 1 2', 'events 3')
-    sheets('events, not values', tabs('dims A B C', 'events', '1 2 3', 'events', '4 5 6', '7 8 9'), 'taken 1 2 3', 'spoilt 0 0 0', 'events 3')
+           'X 1 0 1 1 1', 'taken 1 0 1', 'unclaimed 0 0 0', 'spoilt 1 1 2', 'events 3')
+    sheets('events, not values', tabs('dims A B C', 'events', '1 2 3', 'events', '4 5 6', '7 8 9'), 'taken 1 2 3', 'unclaimed 1 2 3', 'spoilt 0 0 0',
+           'events 3')
 
     # 23: the lowest bad line over all lists, counted over the whole input (e8).
     sheets('bad line in the second list', table + tabs('events', '1', 'events', '2', 'x'), 'refused 23 8')
@@ -1140,7 +1149,7 @@ def several_lists():
     prefix = table + tabs('events', '5', 'events')
     for size, wanted in ((32769, None), (65536, None), (65537, tabs('refused 1 0'))):
         data = prefix + b'9' * (size - len(prefix) - 1) + b'\n'
-        wanted = wanted or tabs('X 1 0 1 1 1', 'Y 1 0 1 1 1', 'taken 1 0 1', 'spoilt 0 1 1', 'events 2')
+        wanted = wanted or tabs('X 1 0 1 1 1', 'Y 1 0 1 1 1', 'taken 1 0 1', 'unclaimed 0 0 0', 'spoilt 0 1 1', 'events 2')
         check('sheet: input of %d bytes' % size, (len(data), gates.gatesheet(data)), (size, wanted))
     sheets('long before all', b'x' * 65537, 'refused 1 0')
     sheets('a table part over 32,768', head + b'x' * 33000 + b'\nevents\n1\nevents\n', 'refused 1 0')
@@ -1152,13 +1161,141 @@ def several_lists():
                                ('three lists', table + tabs('not N Y X'), (('1', '7'), ('70000', '8', '9'), ('5',)))):
         sheet = gates.gatesheet(given + b''.join([tabs('events', *each) for each in lists])).split(b'\n')
         joined = gates.gatecount(given + tabs('events', *itertools.chain(*lists))).split(b'\n')
-        regions = len(sheet) - 4
-        check('joined lists: ' + what, [line.split(b'\t')[1 + len(lists)] for line in sheet[:-2]], [line.split(b'\t')[1] for line in joined[:-1]])
-        check('lines of both: ' + what, [line.split(b'\t')[0] for line in sheet[:-2]], [line.split(b'\t')[0] for line in joined[:-1]])
-        check('fields: ' + what, [line.count(b'\t') for line in sheet], [len(lists) + 3] * regions + [len(lists) + 1] * 2 + [1, 0])
+        regions = len(sheet) - 5
+        both = sheet[:-4] + sheet[-3:-2]        # gatecount prints no unclaimed (f1)
+        check('joined lists: ' + what, [line.split(b'\t')[1 + len(lists)] for line in both], [line.split(b'\t')[1] for line in joined[:-1]])
+        check('lines of both: ' + what, [line.split(b'\t')[0] for line in both], [line.split(b'\t')[0] for line in joined[:-1]])
+        check('fields: ' + what, [line.count(b'\t') for line in sheet], [len(lists) + 3] * regions + [len(lists) + 1] * 3 + [1, 0])
         for column, each in enumerate(lists, 1):
             alone = gates.gatecount(given + tabs('events', *each)).split(b'\n')
-            check('list %d alone: %s' % (column, what), [line.split(b'\t')[column] for line in sheet[:-2]], [line.split(b'\t')[1] for line in alone[:-1]])
+            check('list %d alone: %s' % (column, what), [line.split(b'\t')[column] for line in both], [line.split(b'\t')[1] for line in alone[:-1]])
+
+
+# ---------------------------------------------------------------- 02 f: unclaimed
+
+def unclaims(label, table, events, taken, unclaimed):
+    """Of the events, parted by commas, so many are taken and so many of these unclaimed: by a count, by the table's lines and on a sheet."""
+    lines = [event.strip() for event in events.split(',') if event.strip()]
+    values = [[int(value) for value in line.split()] for line in lines]
+    tally = gates.count(gates.compile_table(table, 4096)[2], [value for event in values for value in event])
+    check('unclaimed: ' + label, (tally[:4], tally[5]), ((0, 0, taken, len(lines) - taken), unclaimed))
+    in_none = [event for event in values if all(-65536 <= value <= 65535 for value in event) and gates.members(table, event) == set()]
+    check('unclaimed by lines: ' + label, len(in_none), unclaimed)
+    sheet = gates.gatesheet(table + tabs('events', *lines)).split(b'\n')
+    check('unclaimed on a sheet: ' + label, sheet[-5:-2], tabs(*['%s %d %d' % (name, number, number) for name, number in (
+        ('taken', taken), ('unclaimed', unclaimed), ('spoilt', len(lines) - taken))]).split(b'\n')[:-1])
+
+
+def unclaimed_events():
+    head, two = tabs('dims A'), tabs('dims A B')
+    x = tabs('dims A', 'rect X - A 0 10')
+
+    # With no regions the number taken; spoilt events are none (f3).
+    unclaims('no region', head, '1, -65536, 65535, 0', 4, 4)
+    unclaims('no region, some spoilt', head, '1, 65536, 65535, -65537, 0', 3, 3)
+    unclaims('no region, all spoilt', head, '65536, -65537', 0, 0)
+    unclaims('no region, no event', head, '', 0, 0)
+    unclaims('no region, two dimensions', two, '1 2, 3 4, 5 70000', 2, 2)
+    unclaims('a quadrant gate has regions', head + tabs('quad Q - 1 A 1 0 Lo -1 Hi 0'), '5, -5, 0, 70000', 3, 0)
+    unclaims('all spoilt', x, '65536, -65537, 2147483647, -2147483648', 0, 0)
+    unclaims('spoilt beside a member', tabs('dims A B', 'rect X - A 0 10'), '5 70000, 50 70000, 5 0, 50 0', 2, 1)
+    unclaims('spoilt is in no complement', x + tabs('not N - X'), '70000, 5, 50', 2, 0)
+
+    # One region: what isn't in it, at its ends too.
+    unclaims('one region', x, '-1, 0, 9, 10, 5, -65536, 65535', 7, 4)
+    unclaims('one region that holds all', head + tabs('rect All - A * *'), '-65536, 0, 65535', 3, 0)
+    unclaims('no event', x, '', 0, 0)
+    unclaims('none claimed', x, '10, 11, -1', 3, 3)
+
+    # Once for each event, whatever the number of regions that hold it or don't.
+    three = x + tabs('rect Y - A 5 20', 'rect Z - A 30 40')
+    unclaims('three regions: in the first alone', three, '0', 1, 0)
+    unclaims('three regions: in the second alone', three, '15', 1, 0)
+    unclaims('three regions: in the last alone', three, '35', 1, 0)
+    unclaims('three regions: in two', three, '5, 9', 2, 0)
+    unclaims('three regions: in none', three, '25', 1, 1)
+    unclaims('three regions: in the first, two, the second, none, the last, none', three, '4, 5, 10, 20, 30, 40', 6, 2)
+    unclaims('three regions: one event after the other', three, '25, 5, 25, 70000, 35, 25, 0', 6, 3)
+    unclaims('three regions: the same event again', three, '25, 25, 25, 5, 5', 5, 3)
+
+    # A child holds no more than its parent: in its shape alone an event is in neither (f: members, shape and parent both).
+    child = x + tabs('rect C X A 5 20')
+    unclaims('a child: in both', child, '7', 1, 0)
+    unclaims('a child: in the parent alone', child, '2', 1, 0)
+    unclaims('a child: in its shape without the parent', child, '15', 1, 1)
+    unclaims('a child: all sorts', child, '2, 7, 15, 25, 70000', 4, 2)
+    unclaims('a child above its parent', tabs('dims A', 'rect C X A 5 20', 'rect X - A 0 10'), '2, 7, 15, 25, 70000', 4, 2)
+    unclaims('quadrants of a parent', x + tabs('quad Q X 1 A 1 5 Lo 0 Hi 5'), '2, 7, 15, -3', 4, 2)
+    unclaims('a child of a quadrant', head + tabs('rect X Hi A 50 60', 'quad Q P 1 A 1 5 Lo 0 Hi 5', 'rect P - A 0 10'), '55, 7, 2, 10', 4, 2)
+
+    # Combinations claim too: a complement what nobody else does, within a parent nothing new.
+    unclaims('a complement', x + tabs('not N - X'), '5, 50, -1', 3, 0)
+    unclaims('a complement within a parent', x + tabs('rect Y - A 5 20', 'not N Y X'), '2, 7, 15, 25', 4, 1)
+    unclaims('a complement of a complement', x + tabs('not N - !X'), '5, 50, -1', 3, 2)
+    unclaims('and of complements', x + tabs('rect Y - A 20 30', 'and B - !X !Y'), '5, 15, 25, 35', 4, 0)
+    unclaims('and, which adds nothing', x + tabs('rect Y - A 5 20', 'and B - X Y'), '2, 7, 15, 25', 4, 1)
+    unclaims('and with one complement', x + tabs('rect Y - A 5 20', 'and B - X !Y'), '2, 7, 15, 25', 4, 1)
+    unclaims('or, which adds nothing', x + tabs('rect Y - A 20 30', 'or O - X Y'), '5, 15, 25, 35', 4, 2)
+    unclaims('or with a complement', x + tabs('rect Y - A 20 30', 'or O - X !Y'), '5, 15, 25, 35', 4, 0)
+    unclaims('or within a parent', x + tabs('rect Y - A 20 30', 'or O X !X !Y'), '5, 15, 25, 35', 4, 2)
+    unclaims('a chain of complements', x + tabs('not N X X', 'not M - N', 'and K M !X !M'), '5, 15', 2, 0)
+
+    # On the outline is inside.
+    unclaims('a triangle', two + tabs('poly T - A B 0 0 10 0 0 10'), '0 0, 5 5, 5 0, 1 1, 6 5, -1 0, 0 11', 7, 3)
+    unclaims('an ellipse', two + tabs('ellip E - A B 0 0 25 0 25 1'), '5 0, 3 4, 0 0, 4 4, 5 1', 5, 2)
+    unclaims('an ellipse with decimals', two + tabs('ellip E - A B 0 0 0.5 0 0.5 2'), '1 0, 0 -1, 1 1, 0 0', 4, 1)
+    unclaims('an ellipsoid', tabs('dims A B C', 'ellip3 E - A B C 0 0 0 9 0 0 9 0 9 1'), '3 0 0, 1 2 2, 2 2 2, 0 0 -4, 0 0 0', 5, 2)
+    unclaims('01\'s example', tabs(*EXAMPLE), '600 200, 400 375, 599 200, 400 376, 350 200, 70000 0', 5, 1)
+
+    # 64 regions, beside each other, 2 of 4 each.
+    full = ['rect R%d - A %d %d' % (k, 4 * k, 4 * k + 2) for k in range(64)]
+    for what, lines in (('64 regions', full), ('64 regions, the other way', full[::-1])):
+        table = head + tabs(*lines)
+        unclaims(what + ': each alone', table, ', '.join(str(4 * k) for k in range(64)), 64, 0)
+        unclaims(what + ': in none', table, ', '.join(str(4 * k + 2) for k in range(64)), 64, 64)
+        for k in (0, 1, 31, 32, 62, 63):
+            unclaims(what + ': number %d alone' % k, table, str(4 * k + 1), 1, 0)
+        unclaims(what + ': beyond', table, '-1, 254, 256, 252', 4, 3)
+    unclaims('64 regions that hold all', head + tabs(*['rect R%d - A * *' % k for k in range(64)]), '0, 1, 65535, 65536', 3, 0)
+    unclaims('63 regions that hold none, and one', head + tabs('rect X - A 0 10', *['rect R%d X A 10 20' % k for k in range(63)]), '5, 15, 25', 3, 2)
+
+    # The order of the lines moves nothing.
+    lines = ('rect X - A 0 10', 'rect C X A 5 20', 'not N C X', 'quad Q X 1 A 1 3 Lo 0 Hi 3', 'or O N Lo Hi')
+    for turn, order in enumerate(itertools.permutations(lines)):
+        unclaims('order %d' % turn, head + tabs(*order), '2, 7, 15, 25, -1, 70000', 5, 3)
+
+    # A refused count has it 0 (f4), though its list has such events.
+    words = [1, 1, 1, 0, -1, 3, 0, 0, 10]
+    zeros = [0] * 64
+    check('unclaimed: the plan', gates.count(words, [50, 5, 60]), (0, 0, 3, 0, [1] + [0] * 63, 2))
+    check('unclaimed: a ragged list', gates.count([2] + words[1:], [50, 50, 60, 60, 70]), (23, 5, 0, 0, zeros, 0))
+    check('unclaimed: a ragged list of no region', gates.count([2, 0], [50, 50, 60]), (23, 3, 0, 0, zeros, 0))
+    check('unclaimed: a malformed plan', gates.count(words + [0], [50, 60]), (22, 9, 0, 0, zeros, 0))
+    check('unclaimed: a plan cut off', gates.count(words[:-1], [50, 60]), (22, 8, 0, 0, zeros, 0))
+    check('unclaimed: a long plan', gates.count(words + [0] * 4096, [50, 60]), (21, 0, 0, 0, zeros, 0))
+    check('unclaimed: no event', gates.count(words, []), (0, 0, 0, 0, zeros, 0))
+    check('unclaimed: no step, no event', gates.count([1, 0], []), (0, 0, 0, 0, zeros, 0))
+    check('unclaimed: no step', gates.count([1, 0], [1, 2, 70000]), (0, 0, 2, 1, zeros, 2))
+
+    # On the sheet directly after taken, laid out alike (f2), each list and the sum, which is that of the joined lists.
+    sheets('unclaimed in each list', x + tabs('events', '5', '50', 'events', '60', '70', '70000', 'events', '1', 'events', 'events', '80'),
+           'X 1 0 1 0 0 2 2 6', 'taken 2 2 1 0 1 6', 'unclaimed 1 2 0 0 1 4', 'spoilt 0 1 0 0 0 1', 'events 7')
+    sheets('unclaimed of the joined lists', x + tabs('events', '5', '50', '60', '70', '70000', '1', '80'),
+           'X 2 2 2 6', 'taken 6 6', 'unclaimed 4 4', 'spoilt 1 1', 'events 7')
+    sheets('unclaimed, the lists exchanged', x + tabs('events', '80', 'events', 'events', '1', 'events', '60', '70', '70000', 'events', '5', '50'),
+           'X 0 0 1 0 1 2 2 6', 'taken 1 0 1 2 2 6', 'unclaimed 1 0 0 2 1 4', 'spoilt 0 0 0 1 0 1', 'events 7')
+    sheets('unclaimed without a region', head + tabs('events', '5', '50', 'events', '70000', '1'),
+           'taken 2 1 3', 'unclaimed 2 1 3', 'spoilt 0 1 1', 'events 4')
+    sheets('unclaimed and a share', three + tabs('events', '0', '5', '25', 'events', '35', '26', '27'),
+           'X 2 0 2 2 6', 'Y 1 0 1 1 6', 'Z 0 1 1 1 6', 'taken 3 3 6', 'unclaimed 1 2 3', 'spoilt 0 0 0', 'events 6')
+    sheets('a region called unclaimed', tabs('dims A', 'rect unclaimed - A 0 10', 'events', '5', '50', '60', 'events', '6'),
+           'unclaimed 1 1 2 2 4', 'taken 3 1 4', 'unclaimed 2 0 2', 'spoilt 0 0 0', 'events 4')
+    sheets('unclaimed: refused lists', x + tabs('events', '50', 'events', '60', 'x'), 'refused 23 7')
+    sheets('unclaimed: a refused table', tabs('dims A', 'rect X - A 0 0', 'events', '50'), 'refused 10 2')
+
+    # gatecount prints what it printed (f1).
+    prints('gatecount tells of no unclaimed', x + tabs('events', '5', '50', '70000'), 'X 1', 'taken 2', 'spoilt 1')
+    prints('nor without a region', head + tabs('events', '5', '70000'), 'taken 1', 'spoilt 1')
 
 
 # ---------------------------------------------------------------- random tables
@@ -1363,11 +1500,11 @@ def outlines(seed):
 def accepted_tables(seed, count):
     """Plan against lines, orders of lines, sums of quadrants, order of steps."""
     makers = (generate.small_table, generate.referring_table, generate.referring_table, generate.outline_table,
-              generate.chain_table, generate.full_table, generate.wide_table)
-    outlined_events = 0
+              generate.chain_table, generate.full_table, generate.wide_table, generate.claim_table)
+    outlined_events, met = 0, collections.Counter()
     for number in range(count):
         rng = random.Random('%s table %d' % (seed, number))
-        maker = rng.choices(makers, (8, 8, 8, 8, 1, 1, 1))[0]
+        maker = rng.choices(makers, (8, 8, 8, 8, 1, 1, 1, 6))[0]
         table = maker(rng)
         data = table.bytes()
         where = 'table %d: ' % number
@@ -1386,8 +1523,11 @@ def accepted_tables(seed, count):
         member_of, outline_of = gates.membership(data), gates.outlines(data)
         with_outline = {line.fields[1] for line in table.lines if line.kind in (b'poly', b'ellip', b'ellip3')}
         counts = {name: 0 for name in names}
+        claimed = unclaimed = 0
         for event in events:
             inside, outline = member_of(event), outline_of(event)
+            claimed += inside != set()
+            unclaimed += inside == set() and not gates.is_spoilt(event)
             outlined_events += outline != set()
             check(where + 'members on outlines of their own', outline <= inside & with_outline, True)
             for name in inside:
@@ -1400,7 +1540,11 @@ def accepted_tables(seed, count):
         taken = sum(1 for event in events if all(-65536 <= value <= 65535 for value in event))
         flat = [value for event in events for value in event]
         wanted = [counts[name] for name in names] + [0] * (64 - len(names))
-        check(where + 'tally', gates.count(words, flat), (0, 0, taken, len(events) - taken, wanted))
+        check(where + 'tally', gates.count(words, flat), (0, 0, taken, len(events) - taken, wanted, unclaimed))
+        check(where + 'taken are claimed or not', claimed + unclaimed, taken)
+        met['unclaimed' if unclaimed else 'all claimed', 'some claimed' if claimed else 'none claimed', 'regions' if names else 'no regions'] += 1
+        cut = words[0] * rng.randint(0, len(events))
+        check(where + 'unclaimed of joined lists', gates.count(words, flat[:cut])[5] + gates.count(words, flat[cut:])[5], unclaimed)
 
         list_ = b'events\n' + generate.join(generate.event_lines(events))
         printed = printed_by_name(gates.gatecount(data + list_))
@@ -1409,6 +1553,7 @@ def accepted_tables(seed, count):
         for other in generate.orders(rng, lines, 3):
             check(where + 'another order', printed_by_name(gates.gatecount(other + list_)), printed)
             other_words, other_names = gates.compile_table(other, 4096)[2:]
+            check(where + 'another order, unclaimed', gates.count(other_words, flat)[5], unclaimed)
             for event in events:
                 check(where + 'another order, event %s' % event,
                       [by_name(bits, other_names) for bits in gates.judge(other_words, event)[2:]],
@@ -1419,6 +1564,9 @@ def accepted_tables(seed, count):
                 total = sum(counts[line.fields[at]] for at in line.places('quadrant'))
                 check(where + 'quadrants add up', total, whole)
     check('events on outlines were met', outlined_events > 2 * count, True)
+    for what in (('unclaimed', 'some claimed', 'regions'), ('unclaimed', 'none claimed', 'regions'), ('all claimed', 'some claimed', 'regions'),
+                 ('unclaimed', 'none claimed', 'no regions')):
+        check('lists with %s were met' % ', '.join(what), met[what] > count // 100, True)
 
 
 def printed_by_name(output):
@@ -1508,16 +1656,28 @@ def generated_sheets(seed, count):
             some = [line for _, _, each in chosen for line in each]
             return [int(line.split(b'\t')[1]) for line in gates.gatecount(table + b''.join([b'events\n'] * bool(chosen) + some)).split(b'\n')[:-1]]
 
-        check(what + ', sums', [row[len(lists)] for row in numbers[:-1]], counted(*lists))
+        check(what + ', the lines behind those of the regions', [line[0] for line in lines[-5:-1]], [b'taken', b'unclaimed', b'spoilt', b'events'])
+        both = numbers[:-3] + numbers[-2:-1]        # gatecount prints no unclaimed
+        check(what + ', sums', [row[len(lists)] for row in both], counted(*lists))
         for column in range(0, len(lists), 1 + len(lists) // 6):
-            check(what + ', list %d' % column, [row[column] for row in numbers[:-1]], counted(lists[column]))
+            check(what + ', list %d' % column, [row[column] for row in both], counted(lists[column]))
         head, table_gates = gates.read_table(table)[2:]
+        if sum(len(each) for _, _, each in lists) < 2000:
+            members_of, left = gates.membership(table), []
+            for _, _, each in lists:
+                events = [gates.event_values(line, len(head)) for line in each]
+                left.append(sum(1 for event in events if not gates.is_spoilt(event) and not members_of(event)))
+            check(what + ', unclaimed', numbers[-3], left + [sum(left)])
+            met['unclaimed', 'in several lists' if sum(1 for number in left if number) > 1 else 'in one list' if sum(left) else 'in no list'] += 1
         parents = [gate.parent for gate in table_gates for _ in gate.regions()]
-        sums = {line[0]: row[len(lists)] for line, row in zip(lines[:-4], numbers)}
-        wanted = [[row[len(lists)], sums[parent] if parent != b'-' else numbers[-3][-1]] for row, parent in zip(numbers, parents)]
-        check(what + ', shares', [row[len(lists) + 1:] for row in numbers[:-3]], wanted)
-        check(what + ', no share', [len(row) for row in numbers[-3:]], [len(lists) + 1] * 2 + [1])
-        check(what + ', total', numbers[-1], [numbers[-3][-1] + numbers[-2][-1]])
+        sums = {line[0]: row[len(lists)] for line, row in zip(lines[:-5], numbers)}
+        wanted = [[row[len(lists)], sums[parent] if parent != b'-' else numbers[-4][-1]] for row, parent in zip(numbers, parents)]
+        check(what + ', shares', [row[len(lists) + 1:] for row in numbers[:-4]], wanted)
+        check(what + ', no share', [len(row) for row in numbers[-4:]], [len(lists) + 1] * 3 + [1])
+        check(what + ', total', numbers[-1], [numbers[-4][-1] + numbers[-2][-1]])
+        if not parents:
+            check(what + ', no region', numbers[-3], numbers[-4])
+            met['no region', 'in several lists' if sum(1 for number in numbers[-4][:-1] if number) > 1 else ''] += 1
         check(what + ', lines of the lists', numbers[-1], [sum(len(each) for _, _, each in lists)])
         for row, parent in zip(numbers, parents):
             met['share', 'of a parent' if parent != b'-' else 'of the taken', 'in several lists' if len(lists) > 1 and 0 < row[-2] < row[-1] else ''] += 1
@@ -1527,8 +1687,9 @@ def generated_sheets(seed, count):
                 met['order'] += 1
     check('every refusal of the sheet was met', {number for number in range(30) if met['refused', number]}, set(range(18)) | {23})
     for what in (('lists', 0), ('lists', 1), ('lists', 2), ('lists', 3), 'empty list', 'order', ('share', 'of a parent', 'in several lists'),
-                 ('share', 'of the taken', 'in several lists')):
+                 ('share', 'of the taken', 'in several lists'), ('unclaimed', 'in several lists'), ('unclaimed', 'in one list'), ('unclaimed', 'in no list')):
         check('sheets with %s were met' % str(what), met[what] > count // 100, True)
+    check('sheets with no region and events in several lists were met', met['no region', 'in several lists'] > count // 200, True)
 
 
 def outline_bits(words, event):
@@ -1657,6 +1818,7 @@ def main():
     plans()
     program()
     several_lists()
+    unclaimed_events()
     outlines(options.seed)
     accepted_tables(options.seed, options.tables)
     circles(options.seed)

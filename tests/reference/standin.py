@@ -43,8 +43,8 @@ def answer(line):
         number, place, bits, outline = gates.judge(words, values)
         return '%d %d %s %s' % (number, place, *[''.join(str(word >> r & 1) for r in range(64))
                                                  for word in (bits, outline)])
-    number, place, taken, spoilt, counts = gates.count(words, values)
-    return numbers([number, place, taken, spoilt] + counts)
+    number, place, taken, spoilt, counts, unclaimed = gates.count(words, values)
+    return numbers([number, place, taken, spoilt] + counts + [unclaimed])
 
 
 def main():

@@ -1,6 +1,6 @@
 -- A group of events: its events, asking a step of a set of them, and the sets after each step.
 use mathlib.Core.Path.{_≡_, refl, sym, ap, ap₂, _∙_}
-use mathlib.Core.Bool.{Bool, true, false, cond, _&&_, _||_, and-assoc, and-true, and-false, or-false, and-or-distrib-left}
+use mathlib.Core.Bool.{Bool, true, false, not, cond, _&&_, _||_, and-assoc, and-true, and-false, or-false, and-or-distrib-left}
 use mathlib.Core.List.{List, [], _∷_}
 use Prim.Native.Nat.{ℕ, zero, suc, _+_, _-_, _*_, _/_, _%_, _<_, _≤_}
 use native.Mathlib.Omega.{arith}
@@ -24,11 +24,11 @@ use Rattle.plans.proofs.IndexLaws.{and-both, and-right-false, all-at, all-of, a
 use Rattle.plans.proofs.WordLaws.{part-whole, length-part}
 use Rattle.plans.proofs.BitLaws.{no-bit, has-or}
 use Rattle.counter.specs.Members.{valueIn, tripleIn, boxIn, operandIn, parentIn, stepIn, settled, bitsOf}
-use Rattle.counter.specs.Judging.{valueGood, taken, members}
-use Rattle.counter.specs.Counting.{eventAt, takenAt, memberAt, tallyOf}
+use Rattle.counter.specs.Judging.{valueGood, taken, members, unclaimed}
+use Rattle.counter.specs.Counting.{eventAt, takenAt, memberAt, unclaimedAt, tallyOf}
 use Rattle.counter.specs.declared.Tally.{Tally}
 use Rattle.counter.specs.Inner.Steps.{parentRegion, headAt, stepAt, Taken, Operands, Sound, AllSound}
-use Rattle.counter.specs.Inner.Groups.{First, SetOf, Those, Candidates, Agree, Matched, MemberSets, inSet, firstOf, fromTo, tripleAt, triplesAt, operandAt, allAt, anyAt, parentAt, drawnAt, shapeAt, memberBy, memberIn}
+use Rattle.counter.specs.Inner.Groups.{First, SetOf, Those, Candidates, Agree, Matched, MemberSets, outside, inSet, inNone, firstOf, fromTo, tripleAt, triplesAt, operandAt, allAt, anyAt, parentAt, drawnAt, shapeAt, memberBy, memberIn}
 use Rattle.counter.specs.declared.steps.Shape.the-variants.{Box}
 use Rattle.counter.specs.declared.steps.Step.{Step}
 use Rattle.counter.proofs.PositionLaws.{without-outline-tells}
@@ -37,7 +37,7 @@ use Rattle.counter.proofs.SoundLaws.{parent-is}
 use Rattle.counter.proofs.StepLaws.{settled-done, bits-low}
 use Rattle.counter.proofs.TallyLaws.{event-inside, withTaken, withSpoilt, tally-taken, tally-spoilt}
 use Rattle.counter.proofs.SpanLaws.{span-range}
-use Rattle.counter.proofs.SetLaws.{has-and, rest-is, settle-same, settle-other}
+use Rattle.counter.proofs.SetLaws.{has-and, rest-is, no-bits, settle-same, settle-other}
 
 -- ---- flags
 
@@ -415,6 +415,25 @@ module _ (p : List ℤ) (n : ℕ) (group : List ℤ) (taken : ℕ) where
       };
     }
 
+-- ---- the sets that no event is in
+
+-- event e is in none of no sets, and of one set more
+pub in-none-start : (sets : List ℕ) (among : ℕ) → Those among (inNone sets 0) among
+unfolding inNone any
+in-none-start sets among = record { each = λ e h. sym (and-true (hasBit among e)) }
+
+pub in-none-next : (sets : List ℕ) (m : ℕ) {among rest other : ℕ} → Those among (inNone sets m) rest → SetOf (outside (getD sets m 0)) other
+    → Those among (inNone sets (m + 1)) (bitAnd rest other)
+unfolding inNone outside inSet any
+in-none-next sets m {among} {rest} {other} t s = record {
+  each = λ e h. has-and rest other e
+      ∙ rw (t .each e h, s .each e h, add-one m) (and-assoc (hasBit among e) _ _ ∙ ap (λ (x : Bool). hasBit among e && x) (neither (any (inSet sets e) m) _));
+}
+  where
+    neither : (a b : Bool) → (not a && not b) ≡ not (a || b)
+    neither true b = refl
+    neither false b = refl
+
 -- ---- one event of a group more in the tally
 
 -- the slice that the code takes is the group
@@ -436,6 +455,20 @@ module _ (p events : List ℤ) {n : ℕ} (en : n ≡ width p) (j g : ℕ) {group
   unfolding memberAt members memberIn inSet takenAt
   member-is s f r k = rw (sym taken-is ∙ f, ← same-event) (sym (s .each r k .each e h ∙ rw f))
 
+  -- where the plan passes and m is the number of its steps, an event that is taken is unclaimed where it is in none of m sets
+  unclaimed-is : checkOf p ≡ passed → {m : ℕ} → m ≡ stepCount p → m ≤ 64 → {sets : List ℕ} → MemberSets p n group taken sets
+      → {none : ℕ} → Those taken (inNone sets m) none → hasBit taken e ≡ true → unclaimedAt p events (j + e) ≡ hasBit none e
+  unfolding unclaimedAt unclaimed members inNone inSet memberIn takenAt
+  unclaimed-is ok {m} em most {sets} s {none} t f =
+      rw (sym taken-is ∙ f, ← same-event)
+      (no-bits m bits (rw em (bits-low p (eventAt n group e) ok)) ∙ ap not (any-same _ _ m same) ∙ sym (t .each e h ∙ rw f))
+    where
+      bits : ℕ
+      bits = bitsOf p (eventAt n group e)
+
+      same : (q : ℕ) → q < m → hasBit bits q ≡ inSet sets e q
+      same q k = sym (s .each q (omega arith) .each e h ∙ rw f)
+
   next : suc (j + e) ≡ j + (e + 1)
   next = omega arith
 
@@ -443,11 +476,12 @@ module _ (p events : List ℤ) {n : ℕ} (en : n ≡ width p) (j g : ℕ) {group
     pub one-spoilt : hasBit taken e ≡ false → u ≡ withSpoilt t → u ≡ tallyOf p events (j + (e + 1))
     one-spoilt f eu = eu ∙ ap withSpoilt et ∙ sym (tally-spoilt p events (j + e) (sym taken-is ∙ f)) ∙ ap (λ (k : ℕ). tallyOf p events k) next
 
-    pub one-taken : {sets : List ℕ} → MemberSets p n group taken sets → hasBit taken e ≡ true → u ≡ withTaken t (inSet sets e)
+    pub one-taken : checkOf p ≡ passed → {m : ℕ} → m ≡ stepCount p → m ≤ 64 → {sets : List ℕ} → MemberSets p n group taken sets
+        → {none : ℕ} → Those taken (inNone sets m) none → hasBit taken e ≡ true → u ≡ withTaken t (inSet sets e) (hasBit none e)
         → u ≡ tallyOf p events (j + (e + 1))
-    one-taken {sets} s f eu =
-        eu ∙ ap (λ (x : Tally). withTaken x (inSet sets e)) et
-        ∙ sym (tally-taken p events (j + e) (sym taken-is ∙ f) (member-is s f)) ∙ ap (λ (k : ℕ). tallyOf p events k) next
+    one-taken ok em most {sets} s {none} o f eu =
+        eu ∙ ap (λ (x : Tally). withTaken x (inSet sets e) (hasBit none e)) et
+        ∙ sym (tally-taken p events (j + e) (sym taken-is ∙ f) (member-is s f) (unclaimed-is ok em most s o f)) ∙ ap (λ (k : ℕ). tallyOf p events k) next
 
 -- no event is in a set from the number of steps on
 pub sets-low : (p : List ℤ) (n : ℕ) (group : List ℤ) {taken : ℕ} {sets : List ℕ} → checkOf p ≡ passed → MemberSets p n group taken sets

@@ -12,8 +12,8 @@ use Rattle.plans.specs.Bits.{hasBit}
 use Rattle.plans.specs.Form.{width}
 use Rattle.plans.proofs.IndexLaws.{all-at, howMany-same}
 use Rattle.counter.specs.Members.{bitsOf}
-use Rattle.counter.specs.Judging.{valueGood, taken, members}
-use Rattle.counter.specs.Counting.{eventAt, takenAt, spoiltAt, memberAt, inRegion, tallyOf, countPassed, countFor, countOf}
+use Rattle.counter.specs.Judging.{valueGood, taken, members, unclaimed}
+use Rattle.counter.specs.Counting.{eventAt, takenAt, spoiltAt, memberAt, unclaimedAt, inRegion, tallyOf, countPassed, countFor, countOf}
 use Rattle.counter.proofs.TableLaws.{table-ext}
 
 -- parts of a list
@@ -77,14 +77,21 @@ module _ (keep : ℤ → ℤ) (alike : (v : ℤ) → onScale (keep v) ≡ onScal
     unfolding spoiltAt
     spoilt-same = howMany-same _ _ m (λ j h. ap not (taken-at j))
 
+    members-at : (j : ℕ) → members p (eventAt (width p) (map keep events) j) ≡ members p (eventAt (width p) events j)
+    members-at j = ap (members p) (event-kept (width p) events j) ∙ members-kept p (eventAt (width p) events j)
+
     region-same : (r : ℕ) → inRegion p (map keep events) m r ≡ inRegion p events m r
     unfolding inRegion memberAt
-    region-same r =
-        howMany-same _ _ m (λ j h. ap (λ (b : ℕ). hasBit b r) (ap (members p) (event-kept (width p) events j) ∙ members-kept p (eventAt (width p) events j)))
+    region-same r = howMany-same _ _ m (λ j h. ap (λ (b : ℕ). hasBit b r) (members-at j))
+
+    unclaimed-same : howMany (unclaimedAt p (map keep events)) m ≡ howMany (unclaimedAt p events) m
+    unfolding unclaimedAt unclaimed takenAt
+    unclaimed-same = howMany-same _ _ m (λ j h. rw (taken-at j, members-at j))
 
     tally-kept : tallyOf p (map keep events) m ≡ tallyOf p events m
     unfolding tallyOf
-    tally-kept = rw (taken-same, spoilt-same, table-ext (inRegion p (map keep events) m) (inRegion p events m) 0 64 (λ r h. region-same r))
+    tally-kept =
+        rw (taken-same, spoilt-same, table-ext (inRegion p (map keep events) m) (inRegion p events m) 0 64 (λ r h. region-same r), unclaimed-same)
 
   -- counting what is kept is counting the values
   pub count-kept : (p events : List ℤ) → countOf p (map keep events) ≡ countOf p events

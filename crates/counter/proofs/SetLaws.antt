@@ -1,4 +1,4 @@
--- Sets of events as bits: intersection, union, complement, a run of events, the first event, one event more.
+-- Sets of events as bits: intersection, union, complement, a run of events, the first event, no event, one event more.
 use mathlib.Core.Path.{_≡_, refl, sym, ap, _∙_}
 use mathlib.Core.Bool.{Bool, true, false, not, cond, _&&_, _||_, and-false, and-self, and-true, or-true, or-false}
 use Prim.Native.Nat.{ℕ, zero, suc, _+_, _-_, _*_, _/_, _%_, _^_, _<_, _≤_, min, compare·suc-suc}
@@ -10,8 +10,10 @@ use lib.Count.{under, trailingZeros}
 use lib.Pow.{pow-pos, pow-mono, ones-lt, high-ones}
 use lib.Dec.{eqb, leb, ltb}
 use borrow.Author.Tests.{ne-eqb, lt-ltb, le-ltb, lt-leb, le-leb}
+use Rattle.plans.specs.Indices.{any}
 use Rattle.plans.specs.Bits.{hasBit, withBit}
 use Rattle.counter.specs.Inner.Groups.{First}
+use Rattle.plans.proofs.IndexLaws.{any-none, any-stop}
 use Rattle.plans.proofs.BitLaws.{has-with-same, has-with-other, no-bit, has-low, has-half}
 
 -- ---- single bits
@@ -142,6 +144,15 @@ first-is (suc k) set some low = go (set % 2) refl (λ more. first-is k (set / 2)
 -- the set without its first event
 pub rest-is : {set first : ℕ} → First 64 set first → (i : ℕ) → hasBit (bitAnd set (set - 1)) i ≡ (hasBit set i && not (eqb i first))
 rest-is {set} f i = has-and set (set - 1) i ∙ f .only i
+
+-- ---- no event
+
+-- a number is 0 exactly where none of its bits is set
+pub no-bits : (k bits : ℕ) → bits < 2 ^ k → eqb bits 0 ≡ not (any (hasBit bits) k)
+no-bits k zero h = sym (ap not (any-none (hasBit 0) k no-bit))
+no-bits k (suc b) h =
+    let f = first-is k (suc b) (omega arith) h in
+    rw (any-stop (hasBit (suc b)) k _ (f .below) (f .there)) (ne-eqb (suc b) 0 (λ q. omega arith))
 
 -- ---- one event more
 

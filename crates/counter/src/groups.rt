@@ -7,13 +7,14 @@ ghost use Rattle.plans.specs.Refusals.{passed};
 ghost use Rattle.plans.specs.Form.{width, checkOf};
 ghost use Rattle.counter.specs.Judging.{taken};
 ghost use Rattle.counter.specs.Counting.{takenAt, tallyOf};
-ghost use Rattle.counter.specs.Inner.Groups.{SetOf, firstOf, fromTo, Candidates, MemberSets, inSet};
+ghost use Rattle.counter.specs.Inner.Groups.{SetOf, Those, firstOf, fromTo, Candidates, MemberSets, inSet, inNone};
 ghost use Rattle.counter.specs.Inner.Raising.{bumped};
 use crate::Tally;
 use crate::reading::bit_in;
 use crate::reading::least;
 use crate::reading::number_in;
 use crate::reading::settle;
+use crate::sets::complement;
 use crate::sets::step_of;
 
 // Whether all values are on the scale. No jump, so that the machine asks several at once.
@@ -102,6 +103,20 @@ fn sets_of(plan: &[i32], group: &[i32], n: usize, g: usize, taken: u64) -> [u64;
     sets
 }
 
+// The events taken that are in none of the first m sets.
+fn in_none(taken: u64, sets: &[u64; 64], m: usize) -> u64
+    requires { ⌜ (length (now sets) ≡ 64) × (m ≤ 64) ⌝ }
+    ensures { λ r. ⌜ Those taken (inNone (now (sets .entry)) m) r ⌝ }
+{
+    let mut rest = taken;
+    let mut q = 0;
+    while q < m {
+        rest = rest & complement(sets[q]);
+        q += 1;
+    }
+    rest
+}
+
 // One more in the count of each region whose set has event e; none has from m on. As many turns for each event.
 fn bump(counts: &mut [u64; 64], sets: &[u64; 64], e: usize, m: usize)
     requires { ⌜ (length (now counts) ≡ 64) × (length (now sets) ≡ 64) × ((r : ℕ) → r < 64 → getD (now counts) r 0 < 2 ^ 63)
@@ -135,12 +150,14 @@ pub fn count_group(
     let taken = taken_of(group, n, g);
     let sets = sets_of(plan, group, n, g, taken);
     let steps = number_in(plan, 1);
+    let unclaimed = in_none(taken, &sets, steps);
     let mut t = tally;
     let mut e = 0;
     while e < g {
         if bit_in(taken, e) {
             bump(&mut t.counts, &sets, e, steps);
             t.taken += 1;
+            t.unclaimed += (unclaimed >> e) % 2;
         } else {
             t.spoilt += 1;
         }

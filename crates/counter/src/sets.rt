@@ -20,7 +20,7 @@ use crate::steps::parent_of;
 use crate::steps::step_at;
 
 // The events that are not in the set.
-fn complement(set: u64) -> u64
+pub fn complement(set: u64) -> u64
     ensures { λ r. ⌜ SetOf (outside set) r ⌝ }
 {
     18446744073709551615 - set

@@ -8,7 +8,7 @@ use lib.ListN.{length, getD, set, take}
 use lib.Seq.{sets, take-suc, length-take-le}
 
 -- one element more
-sets-more : (vs o : List ℕ) (k at v : ℕ) → at ≡ k + length vs → set (sets o k vs) at v ≡ sets o k (vs ++ (v ∷ []))
+pub sets-more : (vs o : List ℕ) (k at v : ℕ) → at ≡ k + length vs → set (sets o k vs) at v ≡ sets o k (vs ++ (v ∷ []))
 sets-more [] o k at v e = let at-k : at ≡ k = omega arith in rw at-k
 sets-more (x ∷ vs) o k at v e = sets-more vs (set o k x) (suc k) at v (omega arith)
 

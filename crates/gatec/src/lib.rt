@@ -42,7 +42,7 @@ pub extern "C" fn gate_check(plan: &[i32], out: &mut [u64; 2])
 }
 
 // The counts, behind the four numbers before them.
-fn put_counts(counts: [u64; 64], out: &mut [u64; 68])
+fn put_counts(counts: [u64; 64], out: &mut [u64; 69])
     ensures { λ _. ⌜ now (out .exit) ≡ sets (now (out .entry)) 4 counts ⌝ }
 {
     let mut i: usize = 0;
@@ -52,9 +52,10 @@ fn put_counts(counts: [u64; 64], out: &mut [u64; 68])
     }
 }
 
-// out: number, place, taken, spoilt, 64 counts.
+// out: number, place, taken, spoilt, 64 counts, unclaimed. A longer row has another symbol, its length in the name, so that what was built for a
+// shorter one does not link.
 #[no_mangle]
-pub extern "C" fn gate_count(plan: &[i32], events: &[i32], out: &mut [u64; 68])
+pub extern "C" fn gate_count_row69(plan: &[i32], events: &[i32], out: &mut [u64; 69])
     ensures { λ _. ⌜ now (out .exit) ≡ sets (now (out .entry)) 0 (countRow (countOf (now (plan .entry)) (now (events .entry)))) ⌝ }
 {
     let c = count(plan, events);
@@ -66,4 +67,5 @@ pub extern "C" fn gate_count(plan: &[i32], events: &[i32], out: &mut [u64; 68])
     out[2] = t.taken;
     out[3] = t.spoilt;
     put_counts(counts, out);
+    out[68] = t.unclaimed;
 }

@@ -14,10 +14,10 @@ fn input_room() -> [u8; 65537]
 }
 
 // Room for every sheet.
-fn sheet_room() -> [u8; 1250000]
-    ensures { λ r. ⌜ 1250000 ≡ length r ⌝ }
+fn sheet_room() -> [u8; 1300000]
+    ensures { λ r. ⌜ 1300000 ≡ length r ⌝ }
 {
-    [0; 1250000]
+    [0; 1300000]
 }
 
 // Writes the sheet of an input.

@@ -31,10 +31,10 @@ use Rattle.gates.proofs.LineSorts.{LineSort, drawn-line, quad-line, and-line, o
 use Rattle.tables.specs.Table.{_∈_, someOf, noRegion, quadrantNames, ownNames, different, names, parentNames, bodyReferences, gateReferences}
 use Rattle.tables.specs.Further.Rules.{Distinct}
 use Rattle.tables.specs.Reaching.{isIn, refersTo}
-use Rattle.tables.proofs.ListLaws.{some-at, some-found, not-not}
+use Rattle.tables.proofs.ListLaws.{both-ways, some-at, some-found, not-not}
 use Rattle.tables.proofs.NameLaws.{same-not, distinct-at, at-distinct, different-distinct, distinct-different}
 use Rattle.linenames.specs.Inner.LineNames.{otherRegion, regionNamed, namesRegion, quadCount, quadrantName, otherQuadrant, quadrantNamed, givesName, sharesQuadrant, sharesName, newQuadrant, ownDifferent, endIn, referenceEnd, hasReference, referenceAt, passesBy, refersLine}
-use Rattle.linenames.proofs.TabLaws.{both-ways, tab-in, in-tab, found-some, any-some}
+use Rattle.linenames.proofs.TabLaws.{tab-in, in-tab, found-some, any-some}
 
 module _ (head fs : List (List ℕ)) where
   -- ---- names of regions

@@ -12,17 +12,9 @@ use Rattle.plans.specs.Indices.{any, firstBad}
 use Rattle.plans.proofs.IndexLaws.{first-at, first-before}
 use Rattle.text.specs.Bounded.{tab}
 use Rattle.text.proofs.BoundedLaws.{length-tab, getD-tab}
-use Rattle.text.proofs.TestLaws.{true≢false, passed-or-failed}
+use Rattle.text.proofs.TestLaws.{true≢false}
 use Rattle.tables.specs.Table.{_∈_, someOf}
 use Rattle.tables.proofs.ListLaws.{some-at, some-found, at-in, index-of, not-not, not-true, unless}
-
--- tests that pass together are equal
-pub both-ways : (a b : Bool) → (a ≡ true → b ≡ true) → (b ≡ true → a ≡ true) → a ≡ b
-both-ways a b f g = go (passed-or-failed a)
-  where
-    go : (a ≡ true) ⊎ (a ≡ false) → a ≡ b
-    go (inl e) = e ∙ sym (f e)
-    go (inr e) = e ∙ sym (unless b (λ t. true≢false (sym (g t) ∙ e)))
 
 module _ {A : Type 0} (f : ℕ → A) (n : ℕ) where
   pub tab-in : (i : ℕ) → i < n → f i ∈ tab f n

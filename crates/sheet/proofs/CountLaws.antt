@@ -136,7 +136,7 @@ module _ (n : ℕ) (p : List ℤ) (s d : List ℕ) (short : length s ≤ 65536) 
 
       pub done-more : {tally next : Tally} → tally ≡ countOf p (values (tablePart (drop (at + 7) s))) .tally → Within 32768 tally
           → next ≡ wrapped (together t tally)
-          → {y : List ℕ} → y ≡ overFrom (k * 66) (numbersOf tally) x → {end : ℕ} → end ≡ tableEnd (drop (at + 7) s)
+          → {y : List ℕ} → y ≡ overFrom (k * 67) (numbersOf tally) x → {end : ℕ} → end ≡ tableEnd (drop (at + 7) s)
           → Done n p s d (at + (7 + end)) (k + 1) next y
       done-more {tally} {next} e m f {y} g {end} h =
           let rest = drop (at + 7) s in
@@ -146,7 +146,7 @@ module _ (n : ℕ) (p : List ℤ) (s d : List ℕ) (short : length s ≤ 65536) 
           let u : next ≡ together t tally = f ∙ wrapped-small v (omega (arith, lists-room)) in
           let j : at + (7 + end) ≡ at + 7 + tableEnd rest = omega (arith, h) in
           let b : 32768 * k + 32768 ≤ 32768 * (k + 1) = omega arith in
-          let long : length (flatMap numbersOf (talliesOf p (w .lists))) ≡ k * 66 = numbers-length p (w .lists) ∙ rw (w .count) in
+          let long : length (flatMap numbersOf (talliesOf p (w .lists))) ≡ k * 67 = numbers-length p (w .lists) ∙ rw (w .count) in
           rw j
           (record {
             opens = opens-next s at;
@@ -158,7 +158,7 @@ module _ (n : ℕ) (p : List ℤ) (s d : List ℕ) (short : length s ≤ 65536) 
             sum-is = u ∙ rw (tallies-more p (w .lists) ls, total-more, ← i, ← w .sum-is);
             within = rw u (within-more b v);
             written =
-                over-from (flatMap numbersOf (talliesOf p (w .lists))) d x y (numbersOf tally) (k * 66) long (w .written) g
+                over-from (flatMap numbersOf (talliesOf p (w .lists))) d x y (numbersOf tally) (k * 67) long (w .written) g
                 ∙ rw (tallies-more p (w .lists) ls, numbers-more, ← i);
           })
 

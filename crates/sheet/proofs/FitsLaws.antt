@@ -1,4 +1,4 @@
--- How long a sheet is: it never has more than 1,250,000 bytes.
+-- How long a sheet is: it never has more than 1,300,000 bytes.
 use mathlib.Core.Path.{_≡_, _∙_}
 use mathlib.Core.Bool.{true, false, cond}
 use mathlib.Core.Logic.{_⊎_, inl, inr}
@@ -38,7 +38,7 @@ use Rattle.report.specs.Report.{regionLine}
 use Rattle.report.proofs.AcceptedLaws.{names-short}
 use Rattle.report.proofs.ReportLaws.{refused-length, lines-length, unless-fits}
 use Rattle.compiler.proofs.VerdictLaws.{number-accepted}
-use Rattle.sheet.specs.Sheet.{share, countIn, regionNumbers, Summary, summaryLine, eventTotal, listTallies, sheetLines, sheetPrinted, sheetOf}
+use Rattle.sheet.specs.Sheet.{share, countIn, regionNumbers, Summary, ofTaken, ofUnclaimed, ofSpoilt, summaryLine, eventTotal, listTallies, sheetLines, sheetPrinted, sheetOf}
 
 -- ---- numbers as text
 
@@ -139,20 +139,21 @@ module _ (input : List ℕ) (short : length input ≤ 65536) (a : Accepted 4096 
   summary-fits : (s : Summary) → UpToEvents (s .number) → length (summaryLine tallies s) ≤ length (s .name) + 18746
   summary-fits s few = simp length-append (omega (arith, listed-few (s .number) few (s .number (total tallies) ∷ [])))
 
-  lines-fit : length (sheetLines table (valueLists input)) ≤ 1250000
+  lines-fit : length (sheetLines table (valueLists input)) ≤ 1300000
   unfolding sheetLines flatMap
   lines-fit =
       let m = length (regions (gates table)) in
       let r = lines-length (regions (gates table)) (regionNumbers table tallies) 18804 m m region-fits (omega arith) in
-      let taken = summary-fits (record { name = bytes "taken"; number = λ t. t .taken }) (λ e t w. w .taken-most) in
-      let spoilt = summary-fits (record { name = bytes "spoilt"; number = λ t. t .spoilt }) (λ e t w. w .spoilt-most) in
+      let taken = summary-fits ofTaken (λ e t w. w .taken-most) in
+      let unclaimed = summary-fits ofUnclaimed (λ e t w. w .unclaimed-most) in
+      let spoilt = summary-fits ofSpoilt (λ e t w. w .spoilt-most) in
       simp length-append (omega (arith, a .rules .few, decimal-length (eventTotal (length (dimensions table)) (valueLists input))))
 
 printed-fits : (input : List ℕ) → length input ≤ 65536
-    → length (sheetPrinted (tablePart input) (raggedLine (isListLine (length (dimensions (tablePart input)))) input) (valueLists input)) ≤ 1250000
+    → length (sheetPrinted (tablePart input) (raggedLine (isListLine (length (dimensions (tablePart input)))) input) (valueLists input)) ≤ 1300000
 unfolding sheetPrinted
 printed-fits input short =
-    unless-fits 1250000 (tableVerdict 4096 table) (cond (ltb 0 line) (refusedLine 23 line) (sheetLines table (valueLists input))) (omega arith)
+    unless-fits 1300000 (tableVerdict 4096 table) (cond (ltb 0 line) (refusedLine 23 line) (sheetLines table (valueLists input))) (omega arith)
     (λ e. go (number-accepted 4096 table e) (passed-or-failed (ltb 0 line)))
   where
     table : List ℕ
@@ -162,14 +163,14 @@ printed-fits input short =
     line = raggedLine (isListLine (length (dimensions table))) input
 
     go : Accepted 4096 table → (ltb 0 line ≡ true) ⊎ (ltb 0 line ≡ false)
-        → length (cond (ltb 0 line) (refusedLine 23 line) (sheetLines table (valueLists input))) ≤ 1250000
+        → length (cond (ltb 0 line) (refusedLine 23 line) (sheetLines table (valueLists input))) ≤ 1300000
     go a (inl e) = rw e (omega (arith, refused-length 23 line))
     go a (inr e) = let z : line ≡ 0 = omega (arith, ltb-false 0 line e) in rw e (lines-fit input short a z)
 
-pub sheet-fits : (input : List ℕ) → length (sheetOf input) ≤ 1250000
+pub sheet-fits : (input : List ℕ) → length (sheetOf input) ≤ 1300000
 unfolding sheetOf
 sheet-fits input = go (passed-or-failed (ltb 65536 (length input)))
   where
-    go : (ltb 65536 (length input) ≡ true) ⊎ (ltb 65536 (length input) ≡ false) → length (sheetOf input) ≤ 1250000
+    go : (ltb 65536 (length input) ≡ true) ⊎ (ltb 65536 (length input) ≡ false) → length (sheetOf input) ≤ 1300000
     go (inl e) = rw e (omega (arith, refused-length 1 0))
     go (inr e) = rw e (printed-fits input (ltb-false 65536 (length input) e))

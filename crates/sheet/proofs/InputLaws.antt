@@ -98,7 +98,7 @@ module _ (input table : List ℕ) (short : length input ≤ 65536) (is : table �
     unfolding sheetPrinted
     good-printed h = rw (accepted, le-ltb 0 line h)
 
-    pub lists-printed : line ≤ 0 → {n : ℕ} → n ≡ length (dimensions table) → line ≡ raggedLine (isListLine n) input → (d x : List ℕ) → length d ≡ 617892
+    pub lists-printed : line ≤ 0 → {n : ℕ} → n ≡ length (dimensions table) → line ≡ raggedLine (isListLine n) input → (d x : List ℕ) → length d ≡ 627254
         → (c : Counts) → CountedLists (planOf table) input d c x → linesBy table x (c .lists) (c .total) ≡ sheetPrinted table line (valueLists input)
     lists-printed h {n} e f d x room c counted =
         let good : raggedLine (isListLine n) input ≡ 0 = omega (arith, f) in

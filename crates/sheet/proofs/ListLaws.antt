@@ -54,6 +54,11 @@ unfolding total together noTally
 taken-adds [] = refl
 taken-adds (t ∷ ts) = rw (taken-adds ts)
 
+pub unclaimed-adds : Adds (λ t. t .unclaimed)
+unfolding total together noTally
+unclaimed-adds [] = refl
+unclaimed-adds (t ∷ ts) = rw (unclaimed-adds ts)
+
 pub spoilt-adds : Adds (λ t. t .spoilt)
 unfolding total together noTally
 spoilt-adds [] = refl

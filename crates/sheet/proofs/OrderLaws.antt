@@ -1,4 +1,4 @@
--- The numbers of a sheet by the table's own lines: in every order of its gate lines they are how many events are members, taken or spoilt.
+-- The numbers of a sheet by the table's own lines: in every order of its gate lines they are how many events are members, taken, unclaimed or spoilt.
 use mathlib.Core.Path.{_≡_, refl, sym, ap, ap₂, _∙_}
 use mathlib.Core.Option.{Option, none, some}
 use mathlib.Core.List.{List, [], _∷_, _++_, Memᴰ·append-left, List·Memᴰ·head as here}
@@ -13,7 +13,7 @@ use Rattle.tallies.specs.Sums.{total}
 use Rattle.gates.specs.Gate.{Name, Region, regions}
 use Rattle.tables.specs.Table.{_∈_, names, numberOf, parentNames, operandNames, sumOf, nthRegion}
 use Rattle.tables.specs.Head.{dimensions, gates, LineOrder, reordered}
-use Rattle.tables.specs.Members.{member}
+use Rattle.tables.specs.Members.{member, unclaimed}
 use Rattle.tables.specs.Refusals.{tableVerdict}
 use Rattle.tables.specs.Compile.{planOf}
 use Rattle.tables.specs.TableCount.{countTableOf}
@@ -24,17 +24,20 @@ use Rattle.tables.proofs.Acceptance.{accepted-passed}
 use Rattle.tables.proofs.OrderedAgain.{OrderedAgain, ordered-again}
 use Rattle.tables.proofs.Demand.{demand-3}
 use Rattle.sheet.specs.Sheet.{withSum, countIn, regionNumbers, listTallies}
-use Rattle.sheet.proofs.ListLaws.{Complete, taken-adds, spoilt-adds, count-adds, Known, allListed, number-summed, number-listed}
+use Rattle.sheet.proofs.ListLaws.{Complete, taken-adds, unclaimed-adds, spoilt-adds, count-adds, Known, allListed, number-summed, number-listed}
 
 -- ---- by the table's own lines
 
--- the events of a list that are members of the region of a name, by the table's own lines; those taken; those spoilt; those in a parent
+-- the events of a list that are members of the region of a name, by the table's own lines; those taken; those unclaimed; those spoilt; those in a parent
 module _ (text : List ℕ) where
   abbrev pub membersIn : Name → List ℤ → ℕ
   membersIn name vs = howMany (λ j. member (gates text) (eventAt (dims text) vs j) name) (eventCount text vs)
 
   abbrev pub takenIn : List ℤ → ℕ
   takenIn vs = howMany (takenAt (dims text) vs) (eventCount text vs)
+
+  abbrev pub unclaimedIn : List ℤ → ℕ
+  unclaimedIn vs = howMany (λ j. unclaimed (gates text) (eventAt (dims text) vs j)) (eventCount text vs)
 
   abbrev pub spoiltIn : List ℤ → ℕ
   spoiltIn vs = howMany (spoiltAt (dims text) vs) (eventCount text vs)
@@ -67,6 +70,9 @@ module _ (text : List ℕ) (accepted : tableVerdict 4096 text ≡ passed) (ks : 
 
   taken-known : Known again lists (λ t. t .taken) (takenIn text)
   taken-known = record { adds = taken-adds; each = λ vs m. ap (λ (t : Tally). t .taken) (its-tally vs m) ∙ kept vs m .all-taken }
+
+  unclaimed-known : Known again lists (λ t. t .unclaimed) (unclaimedIn text)
+  unclaimed-known = record { adds = unclaimed-adds; each = λ vs m. ap (λ (t : Tally). t .unclaimed) (its-tally vs m) ∙ kept vs m .all-unclaimed }
 
   spoilt-known : Known again lists (λ t. t .spoilt) (spoiltIn text)
   spoilt-known = record { adds = spoilt-adds; each = λ vs m. ap (λ (t : Tally). t .spoilt) (its-tally vs m) ∙ kept vs m .all-spoilt }
@@ -108,6 +114,7 @@ pub record NumbersBy (text again : List ℕ) (lists : List (List ℤ)) : Type 0 
   pub region-listed : (r : Region) → r ∈ regions (gates text)
       → regionNumbers again (listTallies again lists) (numberOf (regions (gates again)) (r .name)) ≡ regionBy text lists r
   pub taken-listed : withSum (λ t. t .taken) (listTallies again lists) ≡ allListed (takenIn text) lists
+  pub unclaimed-listed : withSum (λ t. t .unclaimed) (listTallies again lists) ≡ allListed (unclaimedIn text) lists
   pub spoilt-listed : withSum (λ t. t .spoilt) (listTallies again lists) ≡ allListed (spoiltIn text) lists
 
 pub numbers-by : (text : List ℕ) → tableVerdict 4096 text ≡ passed → (ks : List (List ℕ)) → LineOrder text ks → (again : List ℕ) → again ≡ reordered text ks
@@ -122,5 +129,6 @@ numbers-by text accepted ks order again e lists complete =
       found = ordered .found;
       region-listed = region-is text accepted ks order again e lists complete slice room;
       taken-listed = number-listed (taken-known text accepted ks order again e lists complete slice room);
+      unclaimed-listed = number-listed (unclaimed-known text accepted ks order again e lists complete slice room);
       spoilt-listed = number-listed (spoilt-known text accepted ks order again e lists complete slice room);
     }

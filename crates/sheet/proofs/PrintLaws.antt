@@ -60,11 +60,11 @@ module _ (columns : List ℕ) (r : ℕ) where
   pub column-length : (k : ℕ) → length (flatMap numberField (columnOf columns k r)) ≤ 21 * k
   unfolding columnOf
   column-length k =
-      let f : ℕ → ℕ = λ j. getD columns (j * 66 + r) 0 in
+      let f : ℕ → ℕ = λ j. getD columns (j * 67 + r) 0 in
       omega (arith, length-tab f k, fields-length (tab f k))
 
   column-more : (j : ℕ) → flatMap numberField (columnOf columns (j + 1) r)
-      ≡ flatMap numberField (columnOf columns j r) ++ numberField (getD columns (j * 66 + r) 0)
+      ≡ flatMap numberField (columnOf columns j r) ++ numberField (getD columns (j * 67 + r) 0)
   unfolding columnOf flatMap
   column-more j = rw (add-one, fields-append, append-nil)
 
@@ -73,7 +73,7 @@ module _ (columns : List ℕ) (r : ℕ) where
   column-none at d = (refl, from-none at d)
 
   pub column-next : (at j : ℕ) (d : List ℕ) {x y : List ℕ} {n b c : ℕ} → WrittenFrom at (flatMap numberField (columnOf columns j r)) d b x
-      → n ≡ getD columns (j * 66 + r) 0 → WrittenFrom (at + b) (numberField n) x c y
+      → n ≡ getD columns (j * 67 + r) 0 → WrittenFrom (at + b) (numberField n) x c y
       → WrittenFrom at (flatMap numberField (columnOf columns (j + 1) r)) d (b + c) y
   column-next at j d w e v = rw (column-more j, ← e) (from-more at (flatMap numberField (columnOf columns j r)) d _ w v)
 
@@ -115,6 +115,14 @@ pub region-next : (rs : List Region) (columns : List ℕ) (k : ℕ) (t : Tally) 
     → Written (regionLines rs (numbersBy rs columns k t) (r + 1)) d (at + c) y
 unfolding numbersBy
 region-next rs columns k t d r at w e f v = lines-next rs (numbersBy rs columns k t) d r at w e (rw f at v)
+
+-- ---- the lines that follow the regions
+
+pub summaries-written : (at : ℕ) (p q r d : List ℕ) {x y z : List ℕ} {a b c : ℕ} → WrittenFrom at p d a x → WrittenFrom (at + a) q x b y
+    → WrittenFrom (at + (a + b)) r y c z → WrittenFrom at (p ++ (q ++ (r ++ []))) d (a + b + c) z
+summaries-written at p q r d u v w =
+    let e : (p ++ q) ++ r ≡ p ++ (q ++ (r ++ [])) = append-assoc p q r ∙ rw (append-nil r) in
+    rw e at (from-more at (p ++ q) d r (from-more at p d q u v) w)
 
 -- ---- a whole sheet
 

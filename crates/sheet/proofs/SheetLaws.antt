@@ -29,7 +29,7 @@ use Rattle.sheet.specs.Inner.Columns.{numbersOf, columnOf}
 use Rattle.sheet.specs.Inner.Counts.{talliesOf, CountedLists}
 use Rattle.sheet.specs.Inner.Numbers.{countBy, numbersBy, summariesBy, linesBy}
 use Rattle.sheet.specs.declared.counting.Counts.{Counts}
-use Rattle.sheet.proofs.ColumnLaws.{column-is, number-count, number-taken, number-spoilt}
+use Rattle.sheet.proofs.ColumnLaws.{column-is, number-count, number-taken, number-spoilt, number-unclaimed}
 use Rattle.sheet.proofs.SheetTheorems.{lists-complete, total-is}
 
 -- the tallies by the lines of each list are those of its values
@@ -45,11 +45,11 @@ tallies-are table input = go (listLines input)
 
 -- an accepted table, no bad line, and the numbers of the lists written over d, which became x
 module _ (table input d x : List ℕ) (accepted : tableVerdict 4096 table ≡ passed) (good : raggedLine (isListLine (length (dimensions table))) input ≡ 0)
-    (c : Counts) (counted : CountedLists (planOf table) input d c x) (room : length (listLines input) * 66 ≤ length d) where
+    (c : Counts) (counted : CountedLists (planOf table) input d c x) (room : length (listLines input) * 67 ≤ length d) where
   abbrev ts : List Tally
   ts = talliesOf (planOf table) (listLines input)
 
-  column : (r : ℕ) → r < 66 → (number : Tally → ℕ) → ((t : Tally) → length (t .counts) ≡ 64 → getD (numbersOf t) r 0 ≡ number t)
+  column : (r : ℕ) → r < 67 → (number : Tally → ℕ) → ((t : Tally) → length (t .counts) ≡ 64 → getD (numbersOf t) r 0 ≡ number t)
       → columnOf x (c .lists) r ≡ map number ts
   column r h number is = rw (counted .lists-are) (column-is (planOf table) r h number is (listLines input) d x (counted .written) room)
 
@@ -65,7 +65,12 @@ module _ (table input d x : List ℕ) (accepted : tableVerdict 4096 table ≡ pa
   summaries-are : summariesBy x (c .lists) (c .total) ≡ flatMap (summaryLine ts) summaries
   unfolding summariesBy flatMap
   summaries-are =
-      rw (column 64 (omega arith) (λ t. t .taken) number-taken, column 65 (omega arith) (λ t. t .spoilt) number-spoilt, counted .total-is)
+      rw (
+        column 64 (omega arith) (λ t. t .taken) number-taken,
+        column 66 (omega arith) (λ t. t .unclaimed) number-unclaimed,
+        column 65 (omega arith) (λ t. t .spoilt) number-spoilt,
+        counted .total-is,
+      )
 
   events-are : c .total .taken + c .total .spoilt ≡ eventTotal (length (dimensions table)) (valueLists input)
   events-are =

@@ -39,7 +39,7 @@ use Rattle.events.proofs.AnswerLaws.{events-bad}
 use Rattle.events.proofs.ListsLaws.{lists-good}
 use Rattle.report.specs.Report.{regionLines, countNumbers, tallyLines, printed, reportOf}
 use Rattle.report.proofs.ReportTheorems.{report-tally}
-use Rattle.sheet.specs.Sheet.{withSum, regionNumbers, Summary, summaries, eventTotal, listTallies, sheetLines, sheetPrinted, sheetOf}
+use Rattle.sheet.specs.Sheet.{withSum, regionNumbers, Summary, ofTaken, ofSpoilt, summaries, eventTotal, listTallies, sheetLines, sheetPrinted, sheetOf}
 use Rattle.sheet.proofs.ListLaws.{Complete, sum-map, taken-adds, spoilt-adds, one-events, same-line}
 use Rattle.sheet.proofs.OrderLaws.{NumbersBy, numbers-by}
 
@@ -112,7 +112,7 @@ module _ (n : ℕ) where
   pub events-joined : 1 ≤ n → (lists : List (List ℤ)) → Complete n lists → eventTotal n lists ≡ length (flatMap (λ vs. vs) lists) / n
   events-joined h lists c = rw (joined-length lists c) (sym (mul-div-cancel (eventTotal n lists) h))
 
--- each sum, of a region's counts, of taken and of spoilt, is the number that one count over the joined lists gives
+-- each sum, of a region's counts, of taken, of unclaimed and of spoilt, is the number that one count over the joined lists gives
 pub sums-joined : (table : List ℕ) (lists : List (List ℤ)) → Complete (length (dimensions table)) lists
     → total (listTallies table lists) ≡ countOf (planOf table) (flatMap (λ vs. vs) lists) .tally
 unfolding listTallies
@@ -152,22 +152,27 @@ module _ (input : List ℕ) where
 
 -- ---- one list
 
--- the lines of the regions, then `taken`, `spoilt`, each with those of its numbers that are chosen
-abbrev pub linesWith : (List ℕ → List ℕ) → List ℕ → List Tally → List ℕ
-linesWith chosen table tallies =
+-- the lines of the regions, then those that follow, each with those of its numbers that are chosen
+abbrev pub linesWith : List Summary → (List ℕ → List ℕ) → List ℕ → List Tally → List ℕ
+linesWith following chosen table tallies =
     regionLines (regions (gates table)) (λ r. chosen (regionNumbers table tallies r)) (length (regions (gates table)))
-    ++ flatMap (λ (s : Summary). numbersLine (s .name) (chosen (withSum (s .number) tallies))) summaries
+    ++ flatMap (λ (s : Summary). numbersLine (s .name) (chosen (withSum (s .number) tallies))) following
 
--- a sheet has these lines with all their numbers, then the line `events`
+-- a sheet has `taken`, `unclaimed`, `spoilt` there, all lines with all their numbers, then the line `events`
 pub sheet-is : (table : List ℕ) (lists : List (List ℤ))
     → sheetLines table lists
-    ≡ linesWith (λ numbers. numbers) table (listTallies table lists) ++ numbersLine (bytes "events") (eventTotal (length (dimensions table)) lists ∷ [])
+    ≡ linesWith summaries (λ numbers. numbers) table (listTallies table lists)
+    ++ numbersLine (bytes "events") (eventTotal (length (dimensions table)) lists ∷ [])
 unfolding sheetLines
 sheet-is table lists = refl
 
+-- the lines that `gatecount` has there
+abbrev pub countSummaries : List Summary
+countSummaries = ofTaken ∷ ofSpoilt ∷ []
+
 tally-lines : (rs : List Region) (t : Tally)
     → tallyLines rs t
-    ≡ regionLines rs (countNumbers (t .counts)) (length rs) ++ flatMap (λ (s : Summary). numbersLine (s .name) (s .number t ∷ [])) summaries
+    ≡ regionLines rs (countNumbers (t .counts)) (length rs) ++ flatMap (λ (s : Summary). numbersLine (s .name) (s .number t ∷ [])) countSummaries
 unfolding tallyLines takenLine spoiltLine countLine flatMap
 tally-lines rs t =
     let spoilt = spoiltLine (t .spoilt) in
@@ -191,9 +196,9 @@ module _ (input : List ℕ) (short : length input ≤ 65536) (accepted : tableVe
         let c : length vs % width (planOf table) ≡ 0 = rw w (lists-complete n input good vs (rw one (here refl))) in
         rw (counts-all (planOf table) vs (plan-passes 4096 table (passed-accepted 4096 table accepted)) c, w)
 
-    -- of an input with one list, `gatecount` prints the lines of the sheet with the first number of each, and no line `events`
+    -- of an input with one list, `gatecount` prints the lines of the sheet with the first number of each, and no line `unclaimed` or `events`
     pub one-list : (sheetOf input ≡ sheetLines (tablePart input) (vs ∷ []))
-        × (reportOf input ≡ linesWith (take 1) (tablePart input) (listTallies (tablePart input) (vs ∷ [])))
+        × (reportOf input ≡ linesWith countSummaries (take 1) (tablePart input) (listTallies (tablePart input) (vs ∷ [])))
     unfolding regionNumbers listTallies
     one-list =
         let table = tablePart input in
@@ -217,7 +222,7 @@ pub record OrderFree (text again : List ℕ) (lists : List (List ℤ)) : Type 0 
   pub by-name : (r : Region) → r ∈ regions (gates text)
       → regionNumbers again (listTallies again lists) (numberOf (regions (gates again)) (r .name))
       ≡ regionNumbers text (listTallies text lists) (numberOf (regions (gates text)) (r .name))
-  -- and so have `taken` and `spoilt`
+  -- and so have `taken`, `unclaimed` and `spoilt`
   pub summed : (s : Summary) → s ∈ summaries → withSum (s .number) (listTallies again lists) ≡ withSum (s .number) (listTallies text lists)
   -- the total of all events is the same
   pub same-events : eventTotal (length (dimensions again)) lists ≡ eventTotal (length (dimensions text)) lists
@@ -236,7 +241,9 @@ module _ (text : List ℕ) (accepted : tableVerdict 4096 text ≡ passed) (ks : 
   same-summary : (s : Summary) → s ∈ summaries → withSum (s .number) (listTallies again lists) ≡ withSum (s .number) (listTallies text lists)
   same-summary s m =
       ⊎-elim (λ i. rw i (numbers-again .taken-listed ∙ sym (numbers-own .taken-listed)))
-      (λ k. ⊎-elim (λ i. rw i (numbers-again .spoilt-listed ∙ sym (numbers-own .spoilt-listed))) (λ l. absurd (List·Memᴰ·not-nil l)) (List·Memᴰ·cases-cons k))
+      (λ k. ⊎-elim (λ i. rw i (numbers-again .unclaimed-listed ∙ sym (numbers-own .unclaimed-listed)))
+      (λ n. ⊎-elim (λ i. rw i (numbers-again .spoilt-listed ∙ sym (numbers-own .spoilt-listed))) (λ l. absurd (List·Memᴰ·not-nil l)) (List·Memᴰ·cases-cons n))
+      (List·Memᴰ·cases-cons k))
       (List·Memᴰ·cases-cons m)
 
   -- the order of the gate lines moves no number of a sheet

@@ -1,6 +1,7 @@
 -- What `gatesheet` prints (02: "a line per region in table order: name, the count from each list and the sum; then `taken` and `spoilt` laid out
--- alike, and so are lines that come in later"; "Shares of the parent stand after a region's sum as two whole numbers over all lists, count and parent's
--- count (without a parent, the taken), never divided"; "The last line is `events` and the total of all events").
+-- alike, and so are lines that come in later"; "The printed sheet shows it as `unclaimed` after `taken`"; "Shares of the parent stand after a region's
+-- sum as two whole numbers over all lists, count and parent's count (without a parent, the taken), never divided"; "The last line is `events` and the
+-- total of all events").
 use Prim.Native.Nat.{ℕ, _/_}
 use mathlib.Core.Bool.{cond}
 use mathlib.Core.List.{List, [], _∷_, _++_, map, flatMap}
@@ -45,11 +46,17 @@ pub record Summary : Type 0 where
   pub name : List ℕ
   pub number : Tally → ℕ
 
+abbrev pub ofTaken : Summary
+ofTaken = record { name = bytes "taken"; number = λ t. t .taken }
+
+abbrev pub ofUnclaimed : Summary
+ofUnclaimed = record { name = bytes "unclaimed"; number = λ t. t .unclaimed }
+
+abbrev pub ofSpoilt : Summary
+ofSpoilt = record { name = bytes "spoilt"; number = λ t. t .spoilt }
+
 abbrev pub summaries : List Summary
-summaries =
-    record { name = bytes "taken"; number = λ t. t .taken }
-    ∷ record { name = bytes "spoilt"; number = λ t. t .spoilt }
-    ∷ []
+summaries = ofTaken ∷ ofUnclaimed ∷ ofSpoilt ∷ []
 
 abbrev pub summaryLine : List Tally → Summary → List ℕ
 summaryLine tallies s = numbersLine (s .name) (withSum (s .number) tallies)

@@ -46,7 +46,8 @@ fn put_numbers(rest: &mut [u32], tally: Tally) -> usize
     }
     put_at(rest, 64, tally.taken as u32);
     put_at(rest, 65, tally.spoilt as u32);
-    66
+    put_at(rest, 66, tally.unclaimed as u32);
+    67
 }
 
 // The same from index a on.
@@ -87,7 +88,7 @@ pub fn count_lists(
         let parted = split(rest);
         let end = parted.table;
         let tally = count_list(&rest[..end], plan, list);
-        put_numbers_from(columns, lists * 66, tally);
+        put_numbers_from(columns, lists * 67, tally);
         total = sum(total, tally);
         lists += 1;
         at += 7 + end;

@@ -27,7 +27,7 @@ fn put_input(
     columns: &mut [u32],
     out: &mut [u8],
 ) -> usize
-    requires { ⌜ (length (now input) ≤ 65536) × (length (now plan) ≡ 4096) × (length (now list) ≡ 32768) × (length (now columns) ≡ 617892) ⌝ }
+    requires { ⌜ (length (now input) ≤ 65536) × (length (now plan) ≡ 4096) × (length (now list) ≡ 32768) × (length (now columns) ≡ 627254) ⌝ }
     ensures { λ r. ⌜ Writes (sheetOf (now (input .entry))) (now (out .entry)) (now (out .exit)) r ⌝ }
 {
     let parted = split(input);
@@ -63,14 +63,14 @@ fn list_room() -> [i32; 32768]
     [0; 32768]
 }
 
-// Room for 66 numbers of each of 9,362 lists: more do not begin in 65,536 bytes.
-fn columns_room() -> [u32; 617892]
-    ensures { λ r. ⌜ length r ≡ 617892 ⌝ }
+// Room for 67 numbers of each of 9,362 lists: more do not begin in 65,536 bytes.
+fn columns_room() -> [u32; 627254]
+    ensures { λ r. ⌜ length r ≡ 627254 ⌝ }
 {
-    [0; 617892]
+    [0; 627254]
 }
 
-// Writes the sheet of an input over the beginning of out, as far as it goes, and answers how long it is: at most 1,250,000 bytes
+// Writes the sheet of an input over the beginning of out, as far as it goes, and answers how long it is: at most 1,300,000 bytes
 // (the theorem sheet-fits).
 pub fn sheet(input: &[u8], out: &mut [u8]) -> usize
     ensures { λ r. ⌜ Writes (sheetOf (now (input .entry))) (now (out .entry)) (now (out .exit)) r ⌝ }

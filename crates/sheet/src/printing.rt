@@ -51,14 +51,14 @@ fn count_by(tally: Tally, r: usize) -> u64
 
 // Writes number r of each of k lists from index `at` on, as far as out goes, and answers how many bytes they are.
 fn put_column(out: &mut [u8], at: usize, columns: &[u32], k: usize, r: usize) -> usize
-    requires { ⌜ (at ≤ 2000000000) × (k ≤ 9362) × (r < 66) ⌝ }
+    requires { ⌜ (at ≤ 2000000000) × (k ≤ 9362) × (r < 67) ⌝ }
     ensures { λ x. ⌜ WritesFrom at (flatMap numberField (columnOf (now (columns .entry)) k r)) (now (out .entry)) (now (out .exit)) x ⌝ }
     ensures { λ x. ⌜ x ≤ 21 * k ⌝ }
 {
     let mut bytes: usize = 0;
     let mut j = 0;
     while j < k {
-        bytes += put_field_from(out, at + bytes, number_at(columns, j * 66 + r));
+        bytes += put_field_from(out, at + bytes, number_at(columns, j * 67 + r));
         j += 1;
     }
     bytes
@@ -157,10 +157,11 @@ fn put_regions(
 fn put_summaries(out: &mut [u8], at: usize, columns: &[u32], k: usize, total: Tally) -> usize
     requires { ⌜ (at ≤ 12800000) × (k ≤ 9362) ⌝ }
     ensures { λ x. ⌜ WritesFrom at (summariesBy (now (columns .entry)) k total) (now (out .entry)) (now (out .exit)) x ⌝ }
-    ensures { λ x. ⌜ x ≤ 400000 ⌝ }
+    ensures { λ x. ⌜ x ≤ 600000 ⌝ }
 {
     let a = put_summary(out, at, b"taken", columns, k, 64, total.taken);
-    a + put_summary(out, at + a, b"spoilt", columns, k, 65, total.spoilt)
+    let b = a + put_summary(out, at + a, b"unclaimed", columns, k, 66, total.unclaimed);
+    b + put_summary(out, at + b, b"spoilt", columns, k, 65, total.spoilt)
 }
 
 // Writes the lines of a sheet over the beginning of out, as far as it goes, by an accepted table with m regions.

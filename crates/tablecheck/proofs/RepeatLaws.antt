@@ -15,12 +15,11 @@ use Rattle.tables.specs.Table.{_∈_, upTo, ownNames, given, different}
 use Rattle.tables.specs.Head.{dimensions}
 use Rattle.tables.specs.Reaching.{isIn}
 use Rattle.tables.specs.Refusals.{unrepeated}
-use Rattle.tables.proofs.ListLaws.{some-at, some-found, or-passes, unless}
+use Rattle.tables.proofs.ListLaws.{both-ways, some-at, some-found, or-passes, unless}
 use Rattle.tables.proofs.NameLaws.{in-list, list-in, split, unite, different-distinct, distinct-different}
 use Rattle.tables.proofs.RegionLaws.{given-append}
 use Rattle.text.specs.Lines.{fields}
 use Rattle.linenames.specs.Inner.LineNames.{ownDifferent, sharesName}
-use Rattle.linenames.proofs.TabLaws.{both-ways}
 use Rattle.linenames.proofs.LineLaws.{own-different, shares-name}
 use Rattle.resolve.specs.Inner.Reading.{lineAt, fieldsAt, gatesAt}
 use Rattle.tablecheck.specs.Inner.Names.{sharesAt, repeatsAt}

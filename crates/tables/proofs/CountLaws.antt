@@ -1,36 +1,40 @@
 -- Counting by the plan of a table with its gate lines in any order: each region's count by its name, and what the quadrants' counts add up to.
 use mathlib.Core.Path.{_≡_, refl, sym, ap, ap₂, _∙_}
-use mathlib.Core.Bool.{Bool, true, false, _&&_, cond}
+use mathlib.Core.Bool.{Bool, true, false, not, _&&_, cond}
 use mathlib.Core.Logic.{_⊎_, inl, inr, ⊎-elim}
 use mathlib.Core.Option.{Option, none, some}
-use mathlib.Core.List.{List, [], _∷_, List·Memᴰ·cases-cons, List·Memᴰ·not-nil, List·Permᴰ}
+use mathlib.Core.List.{List, [], _∷_, List·Memᴰ·cases-cons, List·Memᴰ·not-nil, List·Permᴰ, Permᴰ·symm}
 use Prim.Native.Nat.{ℕ, zero, suc, _+_, _*_, _/_, _%_, _<_, _≤_}
 use native.Mathlib.Omega.{arith}
 use native.Mathlib.Nat.{suc-mul, le-div-iff-mul-le, min-eq-left}
 use lib.IntN.{ℤ}
 use lib.ListN.{length, getD, drop, length-take, length-drop}
-use Rattle.plans.specs.Indices.{howMany}
+use lib.Dec.{eqb}
+use Rattle.plans.specs.Indices.{any, howMany}
 use Rattle.plans.specs.Words.{word, number, part}
 use Rattle.plans.specs.Bits.{hasBit}
 use Rattle.plans.specs.Refusals.{passed}
-use Rattle.plans.specs.Form.{width, checkOf}
-use Rattle.plans.proofs.IndexLaws.{howMany-same}
+use Rattle.plans.specs.Form.{width, stepCount, checkOf}
+use Rattle.plans.proofs.IndexLaws.{any-at, any-stop, howMany-same}
 use Rattle.plans.proofs.BitLaws.{no-bit}
 use Rattle.counter.specs.Members.{bitsOf}
 use Rattle.counter.specs.Judging.{taken, members}
-use Rattle.counter.specs.Counting.{eventAt, takenAt, spoiltAt, memberAt, listFrom, inRegion, tallyOf, countPassed, countFor, countOf}
+use Rattle.counter.specs.Judging as J
+use Rattle.counter.specs.Counting.{eventAt, takenAt, spoiltAt, memberAt, unclaimedAt, listFrom, inRegion, tallyOf, countPassed, countFor, countOf}
+use Rattle.counter.proofs.StepLaws.{bits-low}
+use Rattle.counter.proofs.SetLaws.{no-bits}
 use Rattle.text.proofs.TestLaws.{passed-or-failed}
 use Rattle.gates.specs.Gate.{Name, Event, Quadrant, Body, one, quad, Gate, Region, regionsOf, regions}
 use Rattle.gates.specs.Meaning.{holds}
 use Rattle.gates.proofs.GoodGate.{GoodShape, GoodBody, holders}
-use Rattle.tables.specs.Table.{_∈_, names, numberOf, sumOf}
+use Rattle.tables.specs.Table.{_∈_, someOf, nthRegion, names, numberOf, sumOf}
 use Rattle.tables.specs.Further.Rules.{Rules}
-use Rattle.tables.specs.Members.{inParent, member}
+use Rattle.tables.specs.Members.{inParent, member, claimed, unclaimed}
 use Rattle.tables.specs.Steps.{planWords}
-use Rattle.tables.proofs.ListLaws.{map-in, map-from}
-use Rattle.tables.proofs.NameLaws.{number-name, in-number}
+use Rattle.tables.proofs.ListLaws.{both-ways, some-at, some-found, map-in, map-from}
+use Rattle.tables.proofs.NameLaws.{name-in, number-name, in-number}
 use Rattle.tables.proofs.SumLaws.{sum-same, sum-add, sum-none}
-use Rattle.tables.proofs.GateLaws.{orderly, region-of-gate, gate-of-region, quadrantRegion, moved-rules, moved-obeys}
+use Rattle.tables.proofs.GateLaws.{orderly, region-of-gate, gate-of-region, quadrantRegion, moved-name, moved-rules, moved-obeys}
 use Rattle.tables.proofs.PlanMembers.{bits-right}
 use Rattle.tables.proofs.MemberTheorems.{member-spoilt, member-obeys}
 
@@ -112,6 +116,51 @@ module _ (t u : List Gate) (p : List·Permᴰ t u) (ok : Rules t) (n : ℕ) (som
       let few = ok-u .few in
       count-at (planWords n rs) values (length values / n) (numberOf rs k) (omega arith)
       ∙ howMany-same _ _ (length values / n) (λ j l. rw (plan-width n rs) (member-by-name (eventAt n values j) (event-length n values j some-values l) k m))
+
+  -- an event that is taken has a bit exactly where the lines make it a member of some name
+  module _ (passes : checkOf (planWords n rs) ≡ passed) (e : Event) (wide : length e ≡ n) (good-event : taken e ≡ true) where
+    abbrev bits : ℕ
+    bits = bitsOf (planWords n rs) e
+
+    bit-is : (r : ℕ) → r < length rs → hasBit bits r ≡ member t e (nthRegion rs r .name)
+    bit-is =
+        bits-right rs (orderly u ok-u) n (good-regions n u good) e wide good-event (member t e)
+        (moved-obeys t u p e (member t e) (member-obeys t e ok good-event))
+
+    some-bit : any (hasBit bits) (length rs) ≡ claimed t e
+    unfolding claimed
+    some-bit = both-ways _ _ onward back
+      where
+        onward : any (hasBit bits) (length rs) ≡ true → someOf (member t e) (names (regions t)) ≡ true
+        onward h =
+            let r = any-at (hasBit bits) (length rs) h in
+            some-at (member t e) (moved-name (Permᴰ·symm p) (name-in rs (r .0) (r .1))) (sym (bit-is (r .0) (r .1)) ∙ r .2)
+
+        back : someOf (member t e) (names (regions t)) ≡ true → any (hasBit bits) (length rs) ≡ true
+        back h =
+            let k = some-found (member t e) (names (regions t)) h in
+            let l = in-number rs (k .0) (moved-name p (k .1)) in
+            any-stop (hasBit bits) (length rs) (numberOf rs (k .0)) l (bit-is _ l ∙ ap (member t e) (sym (number-name rs (k .0) l)) ∙ k .2)
+
+    no-bit-is : eqb bits 0 ≡ not (claimed t e)
+    unfolding stepCount planWords word number
+    no-bit-is = no-bits (length rs) bits (bits-low (planWords n rs) e passes) ∙ ap not some-bit
+
+  -- an event is unclaimed by the plan where it is by the lines
+  unclaimed-same : checkOf (planWords n rs) ≡ passed → (e : Event) → length e ≡ n → J.unclaimed (planWords n rs) e ≡ unclaimed t e
+  unfolding J.unclaimed unclaimed members
+  unclaimed-same passes e wide = go (passed-or-failed (taken e))
+    where
+      go : (taken e ≡ true) ⊎ (taken e ≡ false) → (taken e && eqb (cond (taken e) (bitsOf (planWords n rs) e) 0) 0) ≡ (taken e && not (claimed t e))
+      go (inl h) = rw h (no-bit-is passes e wide h)
+      go (inr h) = rw h
+
+  pub tally-unclaimed : checkOf (planWords n rs) ≡ passed → (values : List ℤ)
+      → tallyOf (planWords n rs) values (length values / n) .unclaimed ≡ howMany (λ j. unclaimed t (eventAt n values j)) (length values / n)
+  unfolding tallyOf unclaimedAt
+  tally-unclaimed passes values =
+      howMany-same _ _ (length values / n)
+      (λ j l. rw (plan-width n rs) (unclaimed-same passes (eventAt n values j) (event-length n values j some-values l)))
 
 -- ---- quadrants
 

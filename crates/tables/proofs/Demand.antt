@@ -15,7 +15,7 @@ use Rattle.gates.specs.Gate.{Name, Quadrant, quad, Gate, Region, regions}
 use Rattle.gates.proofs.GoodGate.{GoodBody}
 use Rattle.tables.specs.Table.{_∈_, names, numberOf, parentNames, bodyReferences, sumOf}
 use Rattle.tables.specs.Head.{gates, LineOrder, reordered}
-use Rattle.tables.specs.Members.{member}
+use Rattle.tables.specs.Members.{member, unclaimed}
 use Rattle.tables.specs.Steps.{planWords}
 use Rattle.tables.specs.Refusals.{tableVerdict}
 use Rattle.tables.specs.Compile.{planOf, Compiling, compileOf}
@@ -26,7 +26,7 @@ use Rattle.tables.proofs.SumLaws.{sum-same}
 use Rattle.tables.proofs.GateLaws.{moved-name}
 use Rattle.tables.proofs.Acceptance.{accepted-passed}
 use Rattle.tables.proofs.OrderedAgain.{OrderedAgain, ordered-again}
-use Rattle.tables.proofs.CountLaws.{plan-width, counted, tally-taken, tally-spoilt, count-by-name, inParentOf, quadrant-name, quadrants-add-up}
+use Rattle.tables.proofs.CountLaws.{plan-width, counted, tally-taken, tally-spoilt, count-by-name, tally-unclaimed, inParentOf, quadrant-name, quadrants-add-up}
 use Rattle.tables.proofs.CompileLaws.{compiled-plan, gates-good, plan-passes}
 use Rattle.tables.proofs.TableCountLaws.{complete-counted}
 
@@ -68,17 +68,21 @@ module _ (text : List ℕ) (accepted : tableVerdict 4096 text ≡ passed) (ks : 
   is-passing : checkOf (lent (into .words) (into .slice)) ≡ passed
   is-passing = rw is-plan (plan-passes 4096 again (both .second))
 
-  -- the tally is that of the plan's words
-  is-counting : countOf (lent (into .words) (into .slice)) values
-      ≡ record { verdict = passed; tally = tallyOf (planWords n (regions u)) values (eventCount text values) }
-  is-counting =
-      let p = planWords n (regions u) in
-      let w = plan-width n (regions u) in
-      let c : checkOf p ≡ passed = rw (← (both .is-words), ← is-plan) is-passing in
-      let k : length values % width p ≡ 0 = rw w complete in
-      rw (is-plan, both .is-words) (counted p values c k ∙ rw w)
+  -- the plan's words
+  abbrev p : List ℤ
+  p = planWords n (regions u)
 
-  is-tally : tally ≡ tallyOf (planWords n (regions u)) values (eventCount text values)
+  words-pass : checkOf p ≡ passed
+  words-pass = rw (← (both .is-words), ← is-plan) is-passing
+
+  -- the tally is that of the plan's words
+  is-counting : countOf (lent (into .words) (into .slice)) values ≡ record { verdict = passed; tally = tallyOf p values (eventCount text values) }
+  is-counting =
+      let w = plan-width n (regions u) in
+      let k : length values % width p ≡ 0 = rw w complete in
+      rw (is-plan, both .is-words) (counted p values words-pass k ∙ rw w)
+
+  is-tally : tally ≡ tallyOf p values (eventCount text values)
   is-tally = ap (λ (c : Counting). c .tally) is-counting
 
   count-is : (k : Name) → k ∈ names (regions t) → countOfName again tally k ≡ howMany (λ j. member t (eventAt n values j) k) (eventCount text values)
@@ -91,6 +95,11 @@ module _ (text : List ℕ) (accepted : tableVerdict 4096 text ≡ passed) (ks : 
 
   spoilt-is : tally .spoilt ≡ howMany (spoiltAt n values) (eventCount text values)
   spoilt-is = ap (λ (y : Tally). y .spoilt) is-tally ∙ tally-spoilt n (regions u) values (eventCount text values)
+
+  unclaimed-is : tally .unclaimed ≡ howMany (λ j. unclaimed t (eventAt n values j)) (eventCount text values)
+  unclaimed-is =
+      ap (λ (y : Tally). y .unclaimed) is-tally
+      ∙ tally-unclaimed t u (both .moved) (both .first .rules) n (both .some-values) (both .good-gates) words-pass values
 
   parent-is : (o : Option Name) → ((k : Name) → k ∈ parentNames o → k ∈ names (regions t))
       → howMany (λ j. inParentOf t o (eventAt n values j)) (eventCount text values) ≡ countOfParent again tally o
@@ -117,6 +126,7 @@ module _ (text : List ℕ) (accepted : tableVerdict 4096 text ≡ passed) (ks : 
     by-name = λ r m. count-is (r .name) (map-in (λ (x : Region). x .name) m);
     all-taken = taken-is;
     all-spoilt = spoilt-is;
+    all-unclaimed = unclaimed-is;
     quadrants = quadrants-are;
   }
 

@@ -228,6 +228,7 @@ for-float f less text again values c d ok = record {
   by-name = d .by-name;
   all-taken = d .all-taken;
   all-spoilt = d .all-spoilt;
+  all-unclaimed = d .all-unclaimed;
   quadrants = d .quadrants;
 }
 

@@ -23,4 +23,5 @@ pub mod OrderedAgain
 pub mod JudgingLaws
 pub mod Examples
 pub mod Demand
+pub mod UnclaimedTheorems
 pub mod FloatTheorems

@@ -13,7 +13,7 @@ use Rattle.counter.specs.declared.Tally.{Tally}
 use Rattle.gates.specs.Gate.{Name, Quadrant, quad, Gate, Region, regions}
 use Rattle.tables.specs.Table.{_∈_, nthRegion, numberOf, sumOf}
 use Rattle.tables.specs.Head.{dimensions, gates, LineOrder, reordered}
-use Rattle.tables.specs.Members.{member}
+use Rattle.tables.specs.Members.{member, unclaimed}
 use Rattle.tables.specs.Refusals.{tableVerdict}
 use Rattle.tables.specs.Compile.{planOf}
 use Rattle.tables.specs.TableCount.{TableCounting, lent}
@@ -53,6 +53,8 @@ pub record Demand3For (f : Float) (text again : List ℕ) (values : List ℤ) (c
   -- the numbers of listed events that are taken and that are spoilt
   pub all-taken : c .tally .taken ≡ howMany (takenAt (dims text) values) (eventCount text values)
   pub all-spoilt : c .tally .spoilt ≡ howMany (spoiltAt (dims text) values) (eventCount text values)
+  -- the number of listed events that are taken and, by the accepted table's own lines, members of no region
+  pub all-unclaimed : c .tally .unclaimed ≡ howMany (λ j. unclaimed (gates text) (eventAt (dims text) values j)) (eventCount text values)
   -- the counts of a quadrant gate's quadrants add up
   pub quadrants : (g : Gate) → g ∈ gates text → (qs : List Quadrant) → g .body ≡ quad qs
       → sumOf (λ (q : Quadrant). countOfName again (c .tally) (q .name)) qs ≡ countOfParent again (c .tally) (g .parent)

@@ -9,7 +9,7 @@ use Rattle.counter.specs.Judging.{taken}
 use Rattle.text.specs.Bytes.{same, every}
 use Rattle.gates.specs.Gate.{Name, Event, Operand, Shape, leaf, and-of, or-of, not-of, Gate, Region, regions}
 use Rattle.gates.specs.Meaning.{holds}
-use Rattle.tables.specs.Table.{someOf}
+use Rattle.tables.specs.Table.{someOf, names}
 
 -- ---- an event that is taken, given of which names it is a member
 
@@ -45,3 +45,12 @@ rounds (suc k) rs e n = round rs e (rounds k rs e) n
 -- the event is a member of the region of that name; an event that is spoilt is a member of nothing
 unfoldable pub member : List Gate → Event → Name → Bool
 member t e n = taken e && rounds (length (regions t)) (regions t) e n
+
+-- ---- events in some region, and in none (02: "events taken that are members of no region")
+
+-- the event is a member of some region's name
+unfoldable pub claimed : List Gate → Event → Bool
+claimed t e = someOf (member t e) (names (regions t))
+
+unfoldable pub unclaimed : List Gate → Event → Bool
+unclaimed t e = taken e && not (claimed t e)

@@ -37,8 +37,9 @@ module _ (a b : List ℕ) where
 
 -- all counts are added
 pub added-all : (a b : Tally) {t : Tally} → t .taken ≡ (a .taken + b .taken) % 18446744073709551616 → t .spoilt ≡ (a .spoilt + b .spoilt) % 18446744073709551616
+    → t .unclaimed ≡ (a .unclaimed + b .unclaimed) % 18446744073709551616
     → (r : ℕ) → 64 ≤ r → Added (a .counts) (b .counts) r (t .counts) → t ≡ wrapped (together a b)
 unfolding wrapped together
-added-all a b {t} et es r h c =
-    same-tally et es (c .long) (wrapped-long (together a b) ∙ together-long a b)
+added-all a b {t} et es eu r h c =
+    same-tally et es eu (c .long) (wrapped-long (together a b) ∙ together-long a b)
     (λ s l. c .sums s (omega arith) ∙ sym (wrapped-count (together a b) s ∙ rw (together-count a b s l)))

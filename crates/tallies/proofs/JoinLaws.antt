@@ -13,8 +13,8 @@ use Rattle.plans.specs.Words.{part}
 use Rattle.plans.specs.Bits.{hasBit}
 use Rattle.plans.specs.Form.{width}
 use Rattle.plans.proofs.IndexLaws.{howMany-same}
-use Rattle.counter.specs.Judging.{taken, members}
-use Rattle.counter.specs.Counting.{eventAt, takenAt, spoiltAt, memberAt, listFrom, inRegion, tallyOf}
+use Rattle.counter.specs.Judging.{taken, members, unclaimed}
+use Rattle.counter.specs.Counting.{eventAt, takenAt, spoiltAt, memberAt, unclaimedAt, listFrom, inRegion, tallyOf}
 use Rattle.counter.proofs.TableLaws.{getD-table, table-ext}
 use Rattle.counter.proofs.TallyLaws.{event-inside}
 use Rattle.tallies.specs.Sums.{together}
@@ -79,6 +79,11 @@ module _ (p xs ys : List ℤ) (m k : ℕ) (whole : m * width p ≡ length xs) wh
       (λ r h. region-joined r ∙ rw (getD-table (inRegion p xs m) 0 64 r (omega arith), getD-table (inRegion p ys k) 0 64 r (omega arith), zero-add))
 
   pub tally-joined : tallyOf p (xs ++ ys) (m + k) ≡ together (tallyOf p xs m) (tallyOf p ys k)
-  unfolding tallyOf together takenAt spoiltAt
+  unfolding tallyOf together takenAt spoiltAt unclaimedAt
   tally-joined =
-      rw (howMany-joined (width p) xs ys m whole taken k, howMany-joined (width p) xs ys m whole (λ e. not (taken e)) k, counts-joined)
+      rw (
+        howMany-joined (width p) xs ys m whole taken k,
+        howMany-joined (width p) xs ys m whole (λ e. not (taken e)) k,
+        counts-joined,
+        howMany-joined (width p) xs ys m whole (unclaimed p) k,
+      )

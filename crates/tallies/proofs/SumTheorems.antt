@@ -12,7 +12,7 @@ use lib.Dec.{ltb, eqb}
 use Rattle.plans.specs.Refusals.{Verdict, passed, refused}
 use Rattle.plans.specs.Form.{width, planEnd, lowestBad, formFor, checkFor, checkOf}
 use Rattle.plans.proofs.IndexLaws.{howMany-le}
-use Rattle.counter.specs.Counting.{takenAt, spoiltAt, memberAt, inRegion, tallyOf, noTally, Counting, countPassed, countFor, countOf}
+use Rattle.counter.specs.Counting.{takenAt, spoiltAt, memberAt, unclaimedAt, inRegion, tallyOf, noTally, Counting, countPassed, countFor, countOf}
 use Rattle.counter.proofs.SoundLaws.{passing}
 use Rattle.counter.proofs.TableLaws.{getD-table}
 use Rattle.counter.proofs.TallyLaws.{counts-long, tally-none}
@@ -98,7 +98,8 @@ module _ (p : List ℤ) where
 tally-within : (p events : List ℤ) (m : ℕ) → Within m (tallyOf p events m)
 unfolding tallyOf inRegion
 tally-within p events m =
-    within-64 (howMany-le (takenAt (width p) events) m) (howMany-le (spoiltAt (width p) events) m) (counts-long p events m)
+    within-64 (howMany-le (takenAt (width p) events) m) (howMany-le (spoiltAt (width p) events) m) (howMany-le (unclaimedAt p events) m)
+    (counts-long p events m)
     (λ r h. rw (getD-table (inRegion p events m) 0 64 r h, zero-add) (howMany-le (memberAt p events r) m))
 
 pub count-within : (p vs : List ℤ) → Within (length vs / width p) (countOf p vs .tally)

@@ -5,12 +5,13 @@ use lib.ListN.{getD}
 use Rattle.counter.specs.Counting.{listFrom, noTally}
 use Rattle.counter.specs.declared.Tally.{Tally}
 
--- two tallies as one: the numbers taken, the numbers spoilt and the counts of each region added
+-- two tallies as one: the numbers taken, the numbers spoilt, the counts of each region and the numbers unclaimed added
 unfoldable pub together : Tally → Tally → Tally
 together a b = record {
   taken = a .taken + b .taken;
   spoilt = a .spoilt + b .spoilt;
   counts = listFrom (λ r. getD (a .counts) r 0 + getD (b .counts) r 0) 0 64;
+  unclaimed = a .unclaimed + b .unclaimed;
 }
 
 -- all tallies of a list as one
@@ -24,4 +25,5 @@ wrapped t = record {
   taken = t .taken % 18446744073709551616;
   spoilt = t .spoilt % 18446744073709551616;
   counts = map (λ c. c % 18446744073709551616) (t .counts);
+  unclaimed = t .unclaimed % 18446744073709551616;
 }

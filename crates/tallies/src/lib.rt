@@ -10,6 +10,7 @@ pub fn sum(a: Tally, b: Tally) -> Tally
 {
     let taken = wrapping_add_u64(a.taken, b.taken);
     let spoilt = wrapping_add_u64(a.spoilt, b.spoilt);
+    let unclaimed = wrapping_add_u64(a.unclaimed, b.unclaimed);
     let mut counts = a.counts;
     let mut r: usize = 0;
     while r < 64 {
@@ -22,5 +23,6 @@ pub fn sum(a: Tally, b: Tally) -> Tally
         taken: taken,
         spoilt: spoilt,
         counts: counts,
+        unclaimed: unclaimed,
     }
 }

@@ -64,6 +64,10 @@ triplesAt n group body t e = all (tripleIn (eventAt n group e) body) t
 unfoldable pub inSet : List ℕ → ℕ → ℕ → Bool
 inSet sets e q = hasBit (getD sets q 0) e
 
+-- event e is in none of the first m sets
+unfoldable pub inNone : List ℕ → ℕ → ℕ → Bool
+inNone sets m e = not (any (inSet sets e) m)
+
 -- the sets say of each event of `among` what its bits say
 pub record Agree (among : ℕ) (sets : List ℕ) (bits : ℕ → ℕ) : Type 0 where
   pub each : (e q : ℕ) → e < 64 → q < 64 → hasBit among e ≡ true → inSet sets e q ≡ hasBit (bits e) q

@@ -6,7 +6,7 @@ use Rattle.gatesheet.proofs.sheet_room.Statement.{statement}
 use Rattle.gatesheet.proofs.sheet_room.Tie as tie
 
 returns : tie.Need-returns
-returns c = sym (length-replicate {A = ℕ} 1250000 0)
+returns c = sym (length-replicate {A = ℕ} 1300000 0)
 
 pub sheet-room-spec : {M : Type 1} → statement M
 sheet-room-spec = tie.close (tie.spec returns)

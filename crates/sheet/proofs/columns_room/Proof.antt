@@ -5,7 +5,7 @@ use Rattle.sheet.proofs.columns_room.Statement.{statement}
 use Rattle.sheet.proofs.columns_room.Tie as tie
 
 returns : tie.Need-returns
-returns c = length-replicate {A = ℕ} 617892 0
+returns c = length-replicate {A = ℕ} 627254 0
 
 pub columns-room-spec : {M : Type 1} → statement M
 columns-room-spec = tie.close (tie.spec returns)

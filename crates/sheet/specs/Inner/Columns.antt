@@ -5,10 +5,10 @@ use lib.ListN.{getD}
 use Rattle.text.specs.Bounded.{tab}
 use Rattle.counter.specs.declared.Tally.{Tally}
 
--- the 66 numbers of a tally: the counts, the taken, the spoilt
+-- the 67 numbers of a tally: the counts, the taken, the spoilt, the unclaimed
 unfoldable pub numbersOf : Tally → List ℕ
-numbersOf t = t .counts ++ (t .taken ∷ t .spoilt ∷ [])
+numbersOf t = t .counts ++ (t .taken ∷ t .spoilt ∷ t .unclaimed ∷ [])
 
 -- number r of each of the first k lists
 unfoldable pub columnOf : List ℕ → ℕ → ℕ → List ℕ
-columnOf columns k r = tab (λ j. getD columns (j * 66 + r) 0) k
+columnOf columns k r = tab (λ j. getD columns (j * 67 + r) 0) k

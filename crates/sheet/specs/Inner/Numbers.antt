@@ -25,7 +25,9 @@ numbersBy rs columns k t r =
 -- the lines that follow the regions
 unfoldable pub summariesBy : List ℕ → ℕ → Tally → List ℕ
 summariesBy columns k t =
-    numbersLine (bytes "taken") (columnOf columns k 64 ++ (t .taken ∷ [])) ++ (numbersLine (bytes "spoilt") (columnOf columns k 65 ++ (t .spoilt ∷ [])) ++ [])
+    numbersLine (bytes "taken") (columnOf columns k 64 ++ (t .taken ∷ []))
+    ++ (numbersLine (bytes "unclaimed") (columnOf columns k 66 ++ (t .unclaimed ∷ []))
+    ++ (numbersLine (bytes "spoilt") (columnOf columns k 65 ++ (t .spoilt ∷ [])) ++ []))
 
 -- a whole sheet
 unfoldable pub linesBy : List ℕ → List ℕ → ℕ → Tally → List ℕ
@@ -33,8 +35,8 @@ linesBy text columns k t =
     let rs = regions (gates text) in
     (regionLines rs (numbersBy rs columns k t) (length rs) ++ summariesBy columns k t) ++ numbersLine (bytes "events") ((t .taken + t .spoilt) ∷ [])
 
--- a place at which a line begins, so many lists, and one of the 66 numbers of each
+-- a place at which a line begins, so many lists, and one of the 67 numbers of each
 pub record Placed (at k r : ℕ) : Type 0 where
   pub near : at ≤ 1000000000
   pub few : k ≤ 9362
-  pub within : r < 66
+  pub within : r < 67

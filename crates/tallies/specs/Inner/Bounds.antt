@@ -10,3 +10,4 @@ pub record Within (e : ℕ) (t : Tally) : Type 0 where
   pub spoilt-most : t .spoilt ≤ e
   pub count-most : (r : ℕ) → getD (t .counts) r 0 ≤ e
   pub long : length (t .counts) ≡ 64
+  pub unclaimed-most : t .unclaimed ≤ e

@@ -72,7 +72,7 @@ mul-put-numbers-from c =
     let inv = l .loop .inv .0 in
     let few = lists-room (inv .0) (a .plan .now) (a .input .now) (a .columns .now) (e .pre .0)
     (l .loop .at) (l .loop .lists) (inv .1) (test .loop-test .taken) in
-    let h : l .loop .lists * 66 < 1000000 = omega (arith, few) in
+    let h : l .loop .lists * 67 < 1000000 = omega (arith, few) in
     search needs
 
 put-numbers-from-requires : tie.Need-put-numbers-from-requires Inv-loop μ-loop

@@ -50,15 +50,22 @@ cast-put-at-3 c =
     let h : e .args .t2 .spoilt < 32769 = omega (arith, e .pre .spoilt-most) in
     search needs
 
+cast-put-at-4 : tie.Need-cast-put-at-4 Inv-loop μ-loop
+cast-put-at-4 c =
+    let e = c .before .before .before .before .before .before .before .before .before .before .before .before in
+    let h : e .args .t2 .unclaimed < 32769 = omega (arith, e .pre .unclaimed-most) in
+    search needs
+
 returns : tie.Need-returns Inv-loop μ-loop
 returns c =
-    let spoilt = c .before .before in
+    let unclaimed = c .before .before in
+    let spoilt = unclaimed .before .before .before .before in
     let taken = spoilt .before .before .before .before in
     let test = taken .before .before in
     let l = test .before in
     let e = l .before .before in
     numbers-written (e .args .t2) (e .args .rest .now) (e .pre .long) (l .loop .r) (test .loop-test .left) (l .loop .inv)
-    refl (taken .put-at2 .ensures) refl (spoilt .put-at3 .ensures)
+    refl (taken .put-at2 .ensures) refl (spoilt .put-at3 .ensures) refl (unclaimed .put-at4 .ensures)
 
 same-length : tie.Need-same-length Inv-loop μ-loop
 same-length c = ap length (returns c .1) ∙ over-length _ _
@@ -80,6 +87,8 @@ put-numbers-spec =
     cast-put-at-2
     (λ c κs. search needs)
     cast-put-at-3
+    (λ c κs. search needs)
+    cast-put-at-4
     (λ c κs. search needs)
     same-length
     returns)
