@@ -22,9 +22,8 @@ returns c =
     let tally = counted .count .result .tally in
     let long : length (tally .counts) ≡ 64 =
     ap (λ (k : Counting). length (k .tally .counts)) (counted .count .ensures) ∙ count-long (args .plan .now) (args .events .now) in
-    ap (λ (l : List ℕ). set l 68 (tally .unclaimed)) (c .put-counts .ensures)
-    ∙ sets-more (tally .counts) _ 4 68 (tally .unclaimed) (omega arith)
-    ∙ rw (numbered .checked-number .ensures, placed .checked-place .ensures) (ap (sets (args .out .now) 0) (ap countRow (counted .count .ensures)))
+    rw (c .put-counts .ensures, numbered .checked-number .ensures, placed .checked-place .ensures)
+    (sets-more (tally .counts) _ 4 68 (tally .unclaimed) (omega arith) ∙ ap (sets (args .out .now) 0) (ap countRow (counted .count .ensures)))
 
 pub gate-count-row69-spec : {M : Type 1} → statement M
 gate-count-row69-spec =
