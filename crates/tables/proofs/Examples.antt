@@ -1,5 +1,6 @@
 -- The marked cases of 01, as one theorem over a list of them about the definitions: those of the worked example from its bytes, then those of shapes,
--- matrices and the plan by itself (counter, proofs/MarkedCases). Outlines, ellipses with decimals and ellipsoids, of 02's requests, are further lists.
+-- matrices and the plan by itself (counter, proofs/MarkedCases). Outlines, ellipses with decimals, ellipsoids and events that nobody gated, of 02's requests, are
+-- further lists.
 use mathlib.Core.Path.{refl}
 use mathlib.Core.Bool.{Bool, true, false, _&&_, cond}
 use mathlib.Core.List.{List, [], _∷_, _++_, map}
@@ -12,7 +13,7 @@ use Rattle.counter.proofs.MarkedCases.{Case, is, Hold, hold-both, examplePlan, 
 use Rattle.text.specs.Bytes.{bytes, same}
 use Rattle.text.specs.Lines.{unlines}
 use Rattle.tables.specs.Head.{gates}
-use Rattle.tables.specs.Members.{member}
+use Rattle.tables.specs.Members.{member, unclaimed}
 use Rattle.tables.specs.Outlines.{outlineMember}
 use Rattle.tables.specs.TableCount.{TableCounting, lent, countTableOf}
 use Rattle.plans.specs.Bits as Bits
@@ -97,6 +98,27 @@ tableCases =
     ∷ is (inGate (bytes "Ring") (pos 400) (pos 376)) false
     ∷ []
 
+-- unclaimed by its own lines: what is just outside Ring; not what is on its rim, and not what is spoilt
+inNoGate : ℤ → ℤ → Bool
+inNoGate x y = unclaimed (gates example) (x ∷ y ∷ [])
+
+-- the same events by a table without gates
+headAlone : List ℕ
+headAlone = unlines (tabbed (bytes "dims FSC SSC") ∷ [])
+
+headAnswer : TableCounting
+headAnswer = countTableOf headAlone (replicate 64 (pos 0)) exampleEvents
+
+pub tableUnclaimedCases : List Case
+tableUnclaimedCases =
+    is (eqb (answer .tally .unclaimed) 1) true
+    ∷ is (inNoGate (pos 400) (pos 376)) true
+    ∷ is (inNoGate (pos 400) (pos 375)) false
+    ∷ is (inNoGate (pos 70000) (pos 0)) false
+    ∷ is (eqb (headAnswer .tally .taken) 5) true
+    ∷ is (eqb (headAnswer .tally .unclaimed) 5) true
+    ∷ []
+
 -- on the outline by its own lines: the rim of Ring, no other region
 onGate : List ℕ → ℤ → ℤ → Bool
 onGate name x y = outlineMember (gates example) (x ∷ y ∷ []) name
@@ -166,8 +188,9 @@ tableEllipsoidCases =
     ∷ is (inTilted (pos 107) (pos 202) (pos 300)) false
     ∷ []
 
-table-cases : Hold tableCases × Hold tableOutlineCases × Hold tableDecimalCases × Hold tableEllipsoidCases
+table-cases : Hold tableCases × Hold tableOutlineCases × Hold tableDecimalCases × Hold tableEllipsoidCases × Hold tableUnclaimedCases
 unfolding tableCases tableOutlineCases tableDecimalCases tableEllipsoidCases ellipsoidExample ellipsoidAnswer inTilted onTilted
+    tableUnclaimedCases inNoGate headAlone headAnswer Judging.unclaimed Counting.unclaimedAt Members.claimed Members.unclaimed
     sameWords answer inGate onGate example exampleEvents decimalExample decimalAnswer inTurned onTurned
     Decimals.beforePoint Decimals.afterPoint Decimals.unsignedThousandths Decimals.thousandths Decimals.isWhole Decimals.isOneToThree Decimals.isMinusZero
     Decimals.isDecimal Kinds.thousandthsOf Rules.decimalRefusal Encoding.decimalWord Meaning.inDecimalEllip LineOutlines.onDecimalEllip
@@ -201,6 +224,7 @@ table-cases = (
   (refl, (refl, (refl, (refl, (refl, (refl, (refl, (refl, (refl, tt))))))))),
   (refl, (refl, (refl, (refl, (refl, (refl, (refl, (refl, tt)))))))),
   (refl, (refl, (refl, (refl, (refl, (refl, (refl, (refl, tt)))))))),
+  (refl, (refl, (refl, (refl, (refl, (refl, tt)))))),
 )
 
 pub marked-cases : Hold (tableCases ++ markedCases)
@@ -214,3 +238,6 @@ decimal-cases = hold-both tableDecimalCases decimalCases (table-cases .2) turned
 
 pub ellipsoid-cases : Hold tableEllipsoidCases
 ellipsoid-cases = table-cases .3
+
+pub unclaimed-cases : Hold tableUnclaimedCases
+unclaimed-cases = table-cases .4
