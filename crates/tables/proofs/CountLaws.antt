@@ -147,7 +147,7 @@ module _ (t u : List Gate) (p : List·Permᴰ t u) (ok : Rules t) (n : ℕ) (som
     no-bit-is = no-bits (length rs) bits (bits-low (planWords n rs) e passes) ∙ ap not some-bit
 
   -- an event is unclaimed by the plan where it is by the lines
-  unclaimed-same : checkOf (planWords n rs) ≡ passed → (e : Event) → length e ≡ n → J.unclaimed (planWords n rs) e ≡ unclaimed t e
+  pub unclaimed-same : checkOf (planWords n rs) ≡ passed → (e : Event) → length e ≡ n → J.unclaimed (planWords n rs) e ≡ unclaimed t e
   unfolding J.unclaimed unclaimed members
   unclaimed-same passes e wide = go (passed-or-failed (taken e))
     where
