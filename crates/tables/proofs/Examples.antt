@@ -1,6 +1,6 @@
 -- The marked cases of 01, as one theorem over a list of them about the definitions: those of the worked example from its bytes, then those of shapes,
--- matrices and the plan by itself (counter, proofs/MarkedCases). Outlines, ellipses with decimals, ellipsoids and events that nobody gated, of 02's requests, are
--- further lists.
+-- matrices and the plan by itself (counter, proofs/MarkedCases). Outlines, ellipses with decimals, ellipsoids and events that nobody gated, of 02's
+-- requests, are further lists.
 use mathlib.Core.Path.{refl}
 use mathlib.Core.Bool.{Bool, true, false, _&&_, cond}
 use mathlib.Core.List.{List, [], _∷_, _++_, map}
