@@ -8,27 +8,27 @@ use native.Mathlib.Nat.{zero-mul, suc-mul}
 use native.Mathlib.Omega.{arith}
 use lib.Dec.{eqb}
 use lib.IntN.{ℤ, pos, negsuc}
-use lib.ListN.{length, getD, take, drop, take-append-drop, length-append, length-drop, drop-of-length-le, List·getD-eq-default}
+use lib.ListN.{length, getD, take, drop, take-append-drop, length-append, length-drop, List·getD-eq-default}
 use lib.Seq.{take-all, drop-drop}
-use borrow.Author.Tests.{ltb-true, ltb-false, lt-ltb, le-ltb, le-leb, eqb-true, not-true, not-false}
-use Rattle.text.specs.Bytes.{bytes, same, every, before}
+use borrow.Author.Tests.{ltb-true, le-leb, eqb-true}
+use Rattle.text.specs.Bytes.{bytes, same, every}
 use Rattle.text.specs.Numbers.{isNegative, unsigned, isPositive, isNumber, numberValue}
 use Rattle.text.specs.Inner.Kept.{kept, readNumber}
 use Rattle.integers.specs.Range.{inRange}
 use Rattle.text.specs.Lines.{fields, lines, unlines, endsInLF, unfields}
 use Rattle.text.specs.Inner.Places.{lineStarts, findFrom, lineFrom}
-use Rattle.text.proofs.TestLaws.{true≢false, and-left, and-right, passed-or-failed, lt-or-ge}
-use Rattle.text.proofs.BytesLaws.{rest-cons, before-found, before-first, same-eq}
+use Rattle.text.proofs.TestLaws.{true≢false, and-left, and-right, lt-or-ge}
+use Rattle.text.proofs.BytesLaws.{rest-cons, before-found, same-eq}
 use Rattle.text.proofs.LinesLaws.{lines-cut, line-length, fields-some, lineStarts-length, start-inside, lines-from-start, line-at-start}
 use Rattle.text.proofs.NumbersLaws.{within-event, clamp-within, read-value}
 use Rattle.text.proofs.TextTheorems.{unlines-lines, unfields-fields}
 use Rattle.events.specs.Parting.{tableLines, tableEnd, hasEvents, eventsEnded, tablePart, eventPart}
-use Rattle.events.specs.Listing.{Events, list, ragged, isEvent, raggedLine, lineValues, values, eventsOf}
+use Rattle.events.specs.Listing.{Events, list, ragged, isEvent, raggedLine, lineValues, values, listPart, eventsOf}
 use Rattle.events.specs.Inner.Answers.{answerOf}
 use Rattle.events.specs.declared.listing.Answer.the-variants.{Values, Short}
 use Rattle.events.proofs.ListingLaws.{lineValues-length}
-use Rattle.events.proofs.PartingLaws.{end-at, end-is, events-no-part}
-use Rattle.events.proofs.AnswerLaws.{behind-good, events-bad, events-good}
+use Rattle.events.proofs.PartingLaws.{end-at, end-is}
+use Rattle.events.proofs.AnswerLaws.{behind-good, list-lines, list-good, events-bad, events-good}
 
 -- ── The input parted ──
 
@@ -149,38 +149,59 @@ module _ (n : ℕ) where
       simp length-append
       (omega (arith, event-bytes n l (and-left (isEvent n l) (every (isEvent n) ls) e), lines-bytes ls (and-right (isEvent n l) (every (isEvent n) ls) e)))
 
-module _ (n : ℕ) (s : List ℕ) (vs : List ℤ) (e : eventsOf n s ≡ list vs) where
-  pub listed-are : (raggedLine (isEvent n) s ≡ 0) × (vs ≡ values (eventPart s))
-  listed-are = go (lt-or-ge 0 (raggedLine (isEvent n) s))
+-- lines left out are bytes left out
+unlines-behind : (k : ℕ) (ls : List (List ℕ)) → length (unlines (drop k ls)) ≤ length (unlines ls)
+unlines-behind zero ls = omega arith
+unlines-behind (suc k) [] = omega arith
+unlines-behind (suc k) (l ∷ ls) = simp length-append (omega (arith, unlines-behind k ls))
+
+module _ (headed : Bool) (n : ℕ) (s : List ℕ) (vs : List ℤ) (e : eventsOf headed n s ≡ list vs) where
+  -- the lines of the events
+  abbrev listed-lines : List (List ℕ)
+  listed-lines = lines (listPart headed (eventPart s))
+
+  pub listed-are : (raggedLine false headed n s ≡ 0) × (vs ≡ values (listPart headed (eventPart s)))
+  listed-are = go (lt-or-ge 0 (raggedLine false headed n s))
     where
-      go : (0 < raggedLine (isEvent n) s) ⊎ (raggedLine (isEvent n) s ≤ 0) → (raggedLine (isEvent n) s ≡ 0) × (vs ≡ values (eventPart s))
-      go (inl l) = absurd (let q : ragged (raggedLine (isEvent n) s) ≡ list vs = sym (events-bad n s l) ∙ e in let z : _≡_ {A = ℕ} 0 1 = cc in omega arith)
-      go (inr l) = let q : list (values (eventPart s)) ≡ list vs = sym (events-good n s l) ∙ e in (omega arith, cc)
+      go : (0 < raggedLine false headed n s) ⊎ (raggedLine false headed n s ≤ 0)
+          → (raggedLine false headed n s ≡ 0) × (vs ≡ values (listPart headed (eventPart s)))
+      go (inl l) =
+          absurd
+          (let q : ragged (raggedLine false headed n s) ≡ list vs = sym (events-bad headed n s l) ∙ e in let z : _≡_ {A = ℕ} 0 1 = cc in omega arith)
+      go (inr l) = let q : list (values (listPart headed (eventPart s))) ≡ list vs = sym (events-good headed n s l) ∙ e in (omega arith, cc)
 
   -- the list is complete: n values for each line of events
-  pub values-complete : length vs ≡ length (lines (eventPart s)) * n
+  pub values-complete : length vs ≡ length listed-lines * n
   unfolding values
-  values-complete = rw (listed-are .1) (lines-values n (lines (eventPart s)) (behind-good (isEvent n) s (listed-are .0) .0))
+  values-complete = rw (listed-are .1) (lines-values n listed-lines (list-good headed n s (listed-are .0)))
 
   -- a value takes two bytes at least: 65,536 bytes hold at most 32,768
   pub values-few : 2 * length vs ≤ length s
   unfolding values eventPart
   values-few =
-      let b = behind-good (isEvent n) s (listed-are .0) in
-      let k = lines-bytes n (lines (eventPart s)) (b .0) in
-      omega (arith, ap length (listed-are .1), length-drop (tableEnd s + 7) s, k, all-bytes (b .1))
+      let k = lines-bytes n listed-lines (list-good headed n s (listed-are .0)) in
+      let b = ap (λ (ls : List (List ℕ)). length (unlines ls)) (list-lines headed (eventPart s)) in
+      omega (
+        arith,
+        ap length (listed-are .1),
+        length-drop (tableEnd s + 7) s,
+        k,
+        b,
+        unlines-behind (cond headed 1 0) (lines (eventPart s)),
+        all-bytes (behind-good false headed n s (listed-are .0) .1),
+      )
     where
       all-bytes : (lines (eventPart s) ≡ []) ⊎ (endsInLF (eventPart s) ≡ true) → length (unlines (lines (eventPart s))) ≤ length (eventPart s)
       all-bytes (inl q) = rw q (omega arith)
       all-bytes (inr q) = omega (arith, ap length (unlines-lines (eventPart s) q))
 
 -- so the answer is never Short where the list has room for half as many values as the input has bytes
-pub never-short : (n : ℕ) (s : List ℕ) (room : ℕ) → length s ≤ 2 * room → answerOf (eventsOf n s) room ≡ Short → ⊥
-never-short n s room h e = go (eventsOf n s) refl e
+pub never-short : (headed : Bool) (n : ℕ) (s : List ℕ) (room : ℕ) → length s ≤ 2 * room → answerOf (eventsOf headed n s) room ≡ Short → ⊥
+never-short headed n s room h e = go (eventsOf headed n s) refl e
   where
-    go : (r : Events) → eventsOf n s ≡ r → answerOf r room ≡ Short → ⊥
+    go : (r : Events) → eventsOf headed n s ≡ r → answerOf r room ≡ Short → ⊥
     go (list vs) q f =
-        let l : length vs ≤ room = omega (arith, values-few n s vs q) in
+        let l : length vs ≤ room = omega (arith, values-few headed n s vs q) in
         let g : Values (length vs) ≡ Short = rw (le-leb (length vs) room l) at f in
         let z : _≡_ {A = ℕ} 0 1 = cc in
         omega arith

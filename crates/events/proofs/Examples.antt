@@ -1,5 +1,6 @@
 -- Worked examples of inputs and of printed lines.
 use mathlib.Core.Path.{_≡_, refl}
+use mathlib.Core.Bool.{Bool, true, false}
 use mathlib.Core.List.{List, [], _∷_, map, flatMap}
 use Prim.Native.Nat.{ℕ}
 use Prim.Native.String.{String, _++_}
@@ -9,20 +10,26 @@ use Rattle.text.specs.Numbers.{isNegative, unsigned, isPositive, isNumber, numb
 use Rattle.text.specs.Lines.{fields, lines, endsInLF}
 use Rattle.text.specs.Output.{decimal}
 use Rattle.events.specs.Parting.{tableLines, tableEnd, hasEvents, tablePart, eventsEnded, eventPart}
-use Rattle.events.specs.Listing.{Events, list, ragged, isEvent, isListLine, goodLines, badLine, raggedLine, lineValues, values, eventsOf, listLines, valueLists}
+use Rattle.events.specs.Listing.{Events, list, ragged, isEvent, goodLines, badLine, raggedLine, columnLines, lineValues, values, listPart, eventsOf}
+use Rattle.events.specs.Listing.{listLines, valueLists}
 use Rattle.events.specs.Printing.{countLine, takenLine, spoiltLine, refusedLine}
 
 -- ── Inputs ──
 
--- an input, its table part, and its events of n values
+-- an input, its table part, and its events of n values, behind a column line or not
 record Example : Type 0 where
+  headed : Bool
   n : ℕ
   input : String
   table : String
   events : Events
 
+-- without a column line
 abbrev example : ℕ → String → String → Events → Example
-example n input table events = record { n = n; input = input; table = table; events = events }
+example n input table events = record { headed = false; n = n; input = input; table = table; events = events }
+
+abbrev headedExample : ℕ → String → String → Events → Example
+headedExample n input table events = record { headed = true; n = n; input = input; table = table; events = events }
 
 -- 01's table
 abbrev table01 : String
@@ -32,8 +39,8 @@ table01 =
 
 abbrev examples : List Example
 examples =
-    -- 01's input
-    example 2 (table01 ++ "events\n600\t200\n400\t375\n599\t200\n400\t376\n350\t200\n70000\t0\n") table01
+    -- 01's input, with its column line
+    headedExample 2 (table01 ++ "events\nFSC\tSSC\n600\t200\n400\t375\n599\t200\n400\t376\n350\t200\n70000\t0\n") table01
     (list (pos 600 ∷ pos 200 ∷ pos 400 ∷ pos 375 ∷ pos 599 ∷ pos 200 ∷ pos 400 ∷ pos 376 ∷ pos 350 ∷ pos 200 ∷ pos 70000 ∷ pos 0 ∷ []))
     -- only the line that is exactly `events` parts the input
     ∷ example 1 "dims\tA\nevents\r\nevents\t\n events\nevents\n1\n" "dims\tA\nevents\r\nevents\t\n events\n" (list (pos 1 ∷ []))
@@ -62,48 +69,95 @@ examples =
     ∷ example 1 "dims\tA\nevents\n4294967296\n-1234567890123456789012345678901234567890\n" "dims\tA\n"
     (list (pos 4294967296 ∷ negsuc 1234567890123456789012345678901234567889 ∷ []))
     ∷ example 1 "dims\tA\nevents\n1234567890123456789012345678901234567890x\n" "dims\tA\n" (ragged 3)
+    -- a column line is no event, whatever it says; a bad line behind it is counted with it
+    ∷ headedExample 1 "dims\tA\nevents\nA\n1\n2\n" "dims\tA\n" (list (pos 1 ∷ pos 2 ∷ []))
+    ∷ headedExample 1 "dims\tA\nevents\n7\n1\n" "dims\tA\n" (list (pos 1 ∷ []))
+    ∷ headedExample 1 "dims\tA\nevents\nevents\n1\n" "dims\tA\n" (list (pos 1 ∷ []))
+    ∷ headedExample 1 "dims\tA\nevents\nA\n1\nx\n" "dims\tA\n" (ragged 5)
+    ∷ headedExample 1 "dims\tA\nevents\nA\n1\nevents\nA\n" "dims\tA\n" (ragged 5)
+    -- a column line without LF, a list without events, and no line `events`
+    ∷ headedExample 1 "dims\tA\nevents\nA" "dims\tA\n" (ragged 3)
+    ∷ headedExample 1 "dims\tA\nevents\nA\n" "dims\tA\n" (list [])
+    ∷ headedExample 1 "dims\tA\nevents" "dims\tA\n" (ragged 2)
+    ∷ headedExample 1 "dims\tA\n" "dims\tA\n" (list [])
     ∷ []
 
 pub example-tables : map (λ e. tablePart (bytes (e .input))) examples ≡ map (λ e. bytes (e .table)) examples
 unfolding tablePart tableEnd hasEvents tableLines lines same
 example-tables = refl
 
-pub example-events : map (λ e. eventsOf (e .n) (bytes (e .input))) examples ≡ map (λ e. e .events) examples
-unfolding eventsOf hasEvents eventsEnded eventPart tableEnd tableLines raggedLine badLine goodLines isEvent values lineValues flatMap lines fields endsInLF same
-    isNumber isPositive isNegative unsigned numberValue
+pub example-events : map (λ e. eventsOf (e .headed) (e .n) (bytes (e .input))) examples ≡ map (λ e. e .events) examples
+unfolding eventsOf hasEvents eventsEnded eventPart tableEnd tableLines raggedLine badLine goodLines isEvent values listPart lineValues flatMap lines fields
+    endsInLF same isNumber isPositive isNegative unsigned numberValue
 example-events = refl
 
 -- ── Several lists ──
 
--- an input, its lists, and its lowest bad line where there may be several lists
+-- an input, its lists, its lowest bad line where there may be several lists, and the column lines of its lists
 record Lists : Type 0 where
   n : ℕ
   input : String
   lists : List (List ℤ)
   bad : ℕ
+  columns : List String
 
 abbrev several : List Lists
 several =
     -- three lists, the second empty
-    record { n = 1; input = "dims\tA\nevents\n1\n2\nevents\nevents\n3\n"; lists = (pos 1 ∷ pos 2 ∷ []) ∷ [] ∷ (pos 3 ∷ []) ∷ []; bad = 0 }
+    record {
+      n = 1;
+      input = "dims\tA\nevents\nA\n1\n2\nevents\nA\nevents\nB\n3\n";
+      lists = (pos 1 ∷ pos 2 ∷ []) ∷ [] ∷ (pos 3 ∷ []) ∷ [];
+      bad = 0;
+      columns = "A" ∷ "A" ∷ "B" ∷ [];
+    }
     -- two values an event
-    ∷ record { n = 2; input = "dims\tA\tB\nevents\n1\t2\nevents\n3\t4\n"; lists = (pos 1 ∷ pos 2 ∷ []) ∷ (pos 3 ∷ pos 4 ∷ []) ∷ []; bad = 0 }
-    -- no line `events`, and one with nothing behind it
-    ∷ record { n = 1; input = "dims\tA\n"; lists = []; bad = 0 }
-    ∷ record { n = 1; input = "dims\tA\nevents\n"; lists = [] ∷ []; bad = 0 }
-    -- a further `events` without LF; bad lines in the second and the third list, of which the lowest counts
-    ∷ record { n = 1; input = "dims\tA\nevents\n1\nevents"; lists = (pos 1 ∷ []) ∷ [] ∷ []; bad = 4 }
-    ∷ record { n = 1; input = "dims\tA\nevents\n1\nevents\n2\t3\nevents\nx\n"; lists = (pos 1 ∷ []) ∷ (pos 2 ∷ pos 3 ∷ []) ∷ (pos 72 ∷ []) ∷ []; bad = 5 }
+    ∷ record {
+      n = 2;
+      input = "dims\tA\tB\nevents\nA\tB\n1\t2\nevents\nA\tB\n3\t4\n";
+      lists = (pos 1 ∷ pos 2 ∷ []) ∷ (pos 3 ∷ pos 4 ∷ []) ∷ [];
+      bad = 0;
+      columns = "A\tB" ∷ "A\tB" ∷ [];
+    }
+    -- no line `events`; one with nothing behind it: the column line is missing, which is an empty one; one without LF
+    ∷ record { n = 1; input = "dims\tA\n"; lists = []; bad = 0; columns = [] }
+    ∷ record { n = 1; input = "dims\tA\nevents\n"; lists = [] ∷ []; bad = 0; columns = "" ∷ [] }
+    ∷ record { n = 1; input = "dims\tA\nevents"; lists = [] ∷ []; bad = 2; columns = [] }
+    -- column lines that are `events`, an event and an empty line
+    ∷ record {
+      n = 1;
+      input = "dims\tevents\nevents\nevents\n1\nevents\nevents\n2\n";
+      lists = (pos 1 ∷ []) ∷ (pos 2 ∷ []) ∷ [];
+      bad = 0;
+      columns = "events" ∷ "events" ∷ [];
+    }
+    ∷ record { n = 1; input = "dims\tA\nevents\n7\n1\nevents\n\n2\n"; lists = (pos 1 ∷ []) ∷ (pos 2 ∷ []) ∷ []; bad = 0; columns = "7" ∷ "" ∷ [] }
+    -- a further `events` without LF opens none; a further one with nothing behind it does; a column line without LF
+    ∷ record { n = 1; input = "dims\tA\nevents\nA\n1\nevents"; lists = (pos 1 ∷ []) ∷ [] ∷ []; bad = 5; columns = "A" ∷ [] }
+    ∷ record { n = 1; input = "dims\tA\nevents\nA\n1\nevents\n"; lists = (pos 1 ∷ []) ∷ [] ∷ []; bad = 0; columns = "A" ∷ "" ∷ [] }
+    ∷ record { n = 1; input = "dims\tA\nevents\nA\n1\nevents\nA"; lists = (pos 1 ∷ []) ∷ [] ∷ []; bad = 6; columns = "A" ∷ "A" ∷ [] }
+    -- bad lines in the second and the third list, of which the lowest counts
+    ∷ record {
+      n = 1;
+      input = "dims\tA\nevents\nA\n1\nevents\nA\n2\t3\nevents\nA\nx\n";
+      lists = (pos 1 ∷ []) ∷ (pos 2 ∷ pos 3 ∷ []) ∷ (pos 72 ∷ []) ∷ [];
+      bad = 7;
+      columns = "A" ∷ "A" ∷ "A" ∷ [];
+    }
     ∷ []
 
 pub several-lists : map (λ e. valueLists (bytes (e .input))) several ≡ map (λ e. e .lists) several
 unfolding valueLists listLines lineValues flatMap lines fields same numberValue isNegative unsigned
 several-lists = refl
 
-pub several-bad : map (λ e. raggedLine (isListLine (e .n)) (bytes (e .input))) several ≡ map (λ e. e .bad) several
-unfolding raggedLine hasEvents eventsEnded eventPart tableEnd tableLines badLine goodLines isListLine isEvent lines fields endsInLF same
+pub several-bad : map (λ e. raggedLine true true (e .n) (bytes (e .input))) several ≡ map (λ e. e .bad) several
+unfolding raggedLine hasEvents eventsEnded eventPart tableEnd tableLines badLine goodLines isEvent lines fields endsInLF same
     isNumber isPositive isNegative unsigned
 several-bad = refl
+
+pub several-columns : map (λ e. columnLines true (bytes (e .input))) several ≡ map (λ e. map bytes (e .columns)) several
+unfolding columnLines hasEvents eventsEnded eventPart tableEnd tableLines lines same
+several-columns = refl
 
 -- ── Printed lines ──
 

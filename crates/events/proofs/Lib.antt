@@ -8,4 +8,5 @@ pub mod PrintingLaws
 pub mod EventTheorems
 pub mod Examples
 pub mod CountedLaws
+pub mod ColumnLaws
 pub mod ListsLaws

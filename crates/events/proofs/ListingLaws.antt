@@ -1,6 +1,6 @@
 -- Laws of specs/Listing.
 use mathlib.Core.Path.{_≡_, refl, sym, _∙_, ap, ap₂}
-use mathlib.Core.Bool.{Bool, true, false, not, cond, _&&_}
+use mathlib.Core.Bool.{Bool, true, false, not, cond, _&&_, _||_}
 use mathlib.Core.List.{List, [], _∷_, _++_, map, map-append, flatMap}
 use Prim.Native.Nat.{ℕ, suc, _+_, _-_, _≤_, _<_}
 use native.Mathlib.Omega.{arith}
@@ -9,7 +9,7 @@ use lib.IntN.{ℤ}
 use lib.ListN.{length, getD, set, take, drop, length-append, length-drop, length-map, List·getD-map}
 use lib.Seq.{take-all, length-take-le}
 use borrow.Author.Tests.{lt-ltb, le-ltb, eq-eqb, ne-eqb}
-use Rattle.text.specs.Bytes.{bytes, same, every}
+use Rattle.text.specs.Bytes.{every}
 use Rattle.text.specs.Inner.Counts.{occurrences}
 use Rattle.text.specs.Numbers.{isNumber, numberValue, clamp}
 use Rattle.text.specs.Inner.Kept.{kept, readNumber}
@@ -17,16 +17,15 @@ use Rattle.text.specs.Lines.{fields, lines, endsInLF}
 use Rattle.text.specs.Inner.Places.{findFrom, lineFrom}
 use Rattle.text.specs.Output.{over}
 use Rattle.text.specs.Inner.Writing.{overFrom}
-use Rattle.text.proofs.TestLaws.{true≢false, and-left, and-right, and-false}
+use Rattle.text.proofs.TestLaws.{and-left, and-right, and-false}
 use Rattle.text.proofs.BytesLaws.{every-fails, every-end}
 use Rattle.text.proofs.NumbersLaws.{read-value}
 use Rattle.text.proofs.OutputLaws.{over-take}
-use Rattle.text.proofs.LinesLaws.{find-inside, lines-cut, lines-end, line-length}
+use Rattle.text.proofs.LinesLaws.{find-from, find-inside, lines-cut, lines-end, line-length}
 use Rattle.text.proofs.TextTheorems.{fields-count}
-use Rattle.events.specs.Listing.{isEvent, isListLine, goodLine, goodLines, badLine, lineValues, values}
+use Rattle.events.specs.Listing.{Line, columns, opening, event, opens, readLines, isEvent, isGood, goodLines, badLine, lineValues, values}
 use Rattle.events.specs.Inner.Answers.{lineKept, valuesKept}
 use Rattle.text.proofs.WritingLaws.{over-from, take-more, drop-more}
-use Rattle.events.proofs.SearchLaws.{Passed, found-number, found-below, missing-number, missing-count}
 
 -- ── An event ──
 
@@ -45,42 +44,100 @@ module _ (n : ℕ) (l : List ℕ) where
     unfolding isEvent
     event-whole q h = rw (e, every-end (fields l) k isNumber h, eq-eqb (length (fields l)) n (sym q))
 
--- ── A good line ──
+-- ── Lines as they are read ──
 
-module _ (n : ℕ) (l : List ℕ) where
-  pub good-again : (several : Bool) → (several && same (bytes "events") l) ≡ true → true ≡ goodLine several n l
-  unfolding isListLine
-  good-again true e = rw e
-  good-again false e = absurd (true≢false (sym e))
+pub read-length : (several headed : Bool) (ls : List (List ℕ)) → length (readLines several headed ls) ≡ length ls
+read-length several headed [] = refl
+read-length several true (l ∷ ls) = ap suc (read-length several false ls)
+read-length several false (l ∷ ls) = go (opens several l) (read-length several true ls) (read-length several false ls)
+  where
+    go : (b : Bool) → length (readLines several true ls) ≡ length ls → length (readLines several false ls) ≡ length ls
+        → length (cond b (opening ∷ readLines several true ls) (event l ∷ readLines several false ls)) ≡ suc (length ls)
+    go true e f = ap suc e
+    go false e f = ap suc f
 
-  pub good-event : (several : Bool) → (several && same (bytes "events") l) ≡ false → isEvent n l ≡ goodLine several n l
-  unfolding isListLine
-  good-event true e = rw e
-  good-event false e = refl
+-- one line, as it is read
+abbrev pub readAs : Bool → Bool → List ℕ → Line
+readAs several true l = columns l
+readAs several false l = cond (opens several l) opening (event l)
+
+-- whether a column line follows it
+abbrev pub headsNext : Bool → Bool → List ℕ → Bool
+headsNext several headed l = not headed && opens several l
+
+pub read-one : (several headed : Bool) (l : List ℕ) (ls : List (List ℕ))
+    → readLines several headed (l ∷ ls) ≡ readAs several headed l ∷ readLines several (headsNext several headed l) ls
+read-one several true l ls = refl
+read-one several false l ls = go (opens several l)
+  where
+    go : (b : Bool) → cond b (opening ∷ readLines several true ls) (event l ∷ readLines several false ls) ≡ cond b opening (event l) ∷ readLines several b ls
+    go true = refl
+    go false = refl
+
+-- a line that is not good
+abbrev pub isBad : ℕ → Line → Bool
+isBad n line = not (isGood n line)
+
+pub bad-read : (several headed : Bool) (n : ℕ) (l : List ℕ)
+    → (not (headed || headsNext several headed l) && not (isEvent n l)) ≡ isBad n (readAs several headed l)
+bad-read several true n l = refl
+bad-read several false n l = go (opens several l)
+  where
+    go : (b : Bool) → (not b && not (isEvent n l)) ≡ isBad n (cond b opening (event l))
+    go true = refl
+    go false = refl
 
 -- ── The lowest bad line ──
 
--- a line that is not good
-abbrev pub isBad : (List ℕ → Bool) → List ℕ → Bool
-isBad good line = not (good line)
+-- the k lines of s before place a are good, and the next is read as a column line or not
+pub record Read (several headed : Bool) (n : ℕ) (s : List ℕ) (a k : ℕ) (next : Bool) : Type 0 where
+  pub below : k ≤ a
+  pub inside : a ≤ length s + 1
+  pub good : goodLines n (readLines several headed (lines s)) ≡ k + goodLines n (readLines several next (lines (drop a s)))
+  pub count : length (lines s) ≡ k + length (lines (drop a s))
 
-module _ (good : List ℕ → Bool) (s : List ℕ) (a k : ℕ) (p : Passed (isBad good) s a k) where
-  pub bad-found : a < length s → isBad good (lineFrom s a) ≡ true → k + 1 ≡ badLine good s
-  unfolding badLine goodLines
-  bad-found l h = sym (rw (found-number (isBad good) s a k p l h, lt-ltb k (length (lines s)) (found-below (isBad good) s a k p l h)))
+module _ (several headed : Bool) (n : ℕ) (s : List ℕ) where
+  pub read-none : Read several headed n s 0 0 headed
+  read-none = record { below = omega arith; inside = omega arith; good = omega arith; count = omega arith }
 
-  module _ (l : length s ≤ a) where
-    no-bad : badLine good s ≡ cond (endsInLF s) 0 k
-    unfolding badLine goodLines
-    no-bad =
-        let m = missing-count (isBad good) s a k p l in
-        rw (missing-number (isBad good) s a k p l, m, le-ltb k k (omega arith))
+  module _ (a k : ℕ) (next : Bool) (p : Read several headed n s a k next) where
+    module _ (l : a < length s) where
+      first-read : readLines several next (lines (drop a s))
+          ≡ readAs several next (lineFrom s a) ∷ readLines several (headsNext several next (lineFrom s a)) (lines (drop (findFrom s a 10 + 1) s))
+      first-read = ap (readLines several next) (lines-cut s a l) ∙ read-one several next (lineFrom s a) (lines (drop (findFrom s a 10 + 1) s))
 
-    pub bad-none : endsInLF s ≡ true → 0 ≡ badLine good s
-    bad-none e = sym (no-bad ∙ rw e)
+      pub read-more : (e : ℕ) → e ≡ findFrom s a 10 → isBad n (readAs several next (lineFrom s a)) ≡ false
+          → Read several headed n s (e + 1) (k + 1) (headsNext several next (lineFrom s a))
+      unfolding goodLines
+      read-more e at h =
+          let i : findFrom s a 10 ≤ length s = find-inside s a 10 (omega arith) in
+          record {
+            below = omega (arith, p .below, find-from s a 10);
+            inside = omega arith;
+            good = p .good ∙ rw (at, first-read, h) (omega arith);
+            count = p .count ∙ rw (at, lines-cut s a l) (omega arith);
+          }
 
-    pub bad-open : endsInLF s ≡ false → k ≡ badLine good s
-    bad-open e = sym (no-bad ∙ rw e)
+      pub bad-found : isBad n (readAs several next (lineFrom s a)) ≡ true → k + 1 ≡ badLine several headed n s
+      unfolding badLine goodLines
+      bad-found h =
+          let f : goodLines n (readLines several headed (lines s)) ≡ k = p .good ∙ rw (first-read, h) (omega arith) in
+          let c : length (lines (drop a s)) ≡ suc (length (lines (drop (findFrom s a 10 + 1) s))) = ap length (lines-cut s a l) in
+          sym (rw (f, lt-ltb k (length (lines s)) (omega (arith, p .count))))
+
+    module _ (l : length s ≤ a) where
+      no-bad : badLine several headed n s ≡ cond (endsInLF s) 0 k
+      unfolding badLine goodLines
+      no-bad =
+          let f : goodLines n (readLines several headed (lines s)) ≡ k = p .good ∙ rw (lines-end s a l) (omega arith) in
+          let m : length (lines s) ≡ k = p .count ∙ rw (lines-end s a l) (omega arith) in
+          rw (f, m, le-ltb k k (omega arith))
+
+      pub bad-none : endsInLF s ≡ true → 0 ≡ badLine several headed n s
+      bad-none e = sym (no-bad ∙ rw e)
+
+      pub bad-open : endsInLF s ≡ false → k ≡ badLine several headed n s
+      bad-open e = sym (no-bad ∙ rw e)
 
 -- ── Values ──
 

@@ -1,12 +1,12 @@
--- Laws of several lists: each begins with a line `events` and goes on to the next.
+-- Laws of several lists: each begins with a line `events` and a column line, and goes on to the next `events`.
 use mathlib.Core.Path.{_≡_, refl, sym, _∙_, ap, ap₂}
-use mathlib.Core.Bool.{Bool, true, false, cond, _||_}
-use mathlib.Core.Logic.{_⊎_, inl, inr, ⊎-elim}
-use mathlib.Core.List.{List, [], _∷_, _++_, flatMap}
+use mathlib.Core.Bool.{Bool, true, false, cond}
+use mathlib.Core.Logic.{_⊎_, inl, inr}
+use mathlib.Core.List.{List, [], _∷_, flatMap}
 use Prim.Native.Nat.{ℕ, zero, suc, _+_, _-_, _*_, _≤_, _<_}
 use native.Mathlib.Omega.{arith}
 use lib.Dec.{eqb}
-use lib.ListN.{length, getD, take, drop, length-append, length-drop, drop-of-length-le}
+use lib.ListN.{length, take, drop, length-append, length-drop}
 use lib.Seq.{take-all, drop-drop}
 use borrow.Author.Tests.{ltb-false, eqb-true}
 use Rattle.text.specs.Bytes.{bytes, same, every, before}
@@ -14,42 +14,46 @@ use Rattle.text.specs.Lines.{push, parts, lines, unlines}
 use Rattle.text.specs.Inner.Counts.{without}
 use Rattle.text.specs.Inner.Places.{findFrom, lineFrom}
 use Rattle.text.proofs.TestLaws.{and-left, and-right, passed-or-failed, lt-or-ge}
-use Rattle.text.proofs.BytesLaws.{before-le, same-eq}
-use Rattle.text.proofs.LinesLaws.{lines-cut, lines-end, line-length}
+use Rattle.text.proofs.BytesLaws.{same-eq}
+use Rattle.text.proofs.LinesLaws.{find-from, lines-cut, lines-end, line-length}
 use Rattle.text.proofs.TextTheorems.{lines-without, lines-unlines}
 use Rattle.events.specs.Parting.{tableLines, tableEnd, hasEvents, tablePart, eventPart}
-use Rattle.events.specs.Listing.{isEvent, isListLine, raggedLine, toFirst, partedLines, listLines}
+use Rattle.events.specs.Listing.{Line, columns, opening, event, readLines, isEvent, isGood, raggedLine, toFirst, partedLines, listLines}
 use Rattle.events.specs.Inner.Answers.{partedOf}
 use Rattle.events.specs.declared.parting.Parted.{Parted}
 use Rattle.events.proofs.PartingLaws.{isOpening, end-is}
-use Rattle.events.proofs.AnswerLaws.{unragged, behind-good}
-use Rattle.events.proofs.EventTheorems.{table-all, is-line, line-is, inside, lf-at, event-lines}
+use Rattle.events.proofs.AnswerLaws.{behind-good}
+use Rattle.events.proofs.EventTheorems.{table-all, is-line, line-is, inside, event-lines}
 
 -- ── Lines parted ──
 
-parted-none : (ls : List (List ℕ)) → length ls ≤ before isOpening ls → partedLines ls ≡ ls ∷ []
+-- lines of which the first is a column line or not, parted where a list is opened
+abbrev pub partedFrom : Bool → List (List ℕ) → List (List (List ℕ))
+partedFrom headed ls = partedLines (readLines true headed ls)
+
+parted-none : (ls : List (List ℕ)) → length ls ≤ before isOpening ls → partedFrom false ls ≡ ls ∷ []
 parted-none [] h = refl
 parted-none (l ∷ ls) h = go (isOpening l) h (parted-none ls)
   where
-    go : (b : Bool) → suc (length ls) ≤ cond b 0 (suc (before isOpening ls)) → (length ls ≤ before isOpening ls → partedLines ls ≡ ls ∷ [])
-        → cond b ([] ∷ partedLines ls) (toFirst l (partedLines ls)) ≡ (l ∷ ls) ∷ []
+    go : (b : Bool) → suc (length ls) ≤ cond b 0 (suc (before isOpening ls)) → (length ls ≤ before isOpening ls → partedFrom false ls ≡ ls ∷ [])
+        → partedLines (cond b (opening ∷ readLines true true ls) (event l ∷ readLines true false ls)) ≡ (l ∷ ls) ∷ []
     go true k r = absurd (omega arith)
     go false k r = rw (r (omega arith))
 
 parted-first : (ls : List (List ℕ)) → before isOpening ls < length ls
-    → partedLines ls ≡ take (before isOpening ls) ls ∷ partedLines (drop (before isOpening ls + 1) ls)
+    → partedFrom false ls ≡ take (before isOpening ls) ls ∷ partedFrom true (drop (before isOpening ls + 1) ls)
 parted-first [] h = absurd (omega arith)
 parted-first (l ∷ ls) h = go (isOpening l) h (parted-first ls)
   where
     go : (b : Bool) → cond b 0 (suc (before isOpening ls)) < suc (length ls)
-        → (before isOpening ls < length ls → partedLines ls ≡ take (before isOpening ls) ls ∷ partedLines (drop (before isOpening ls + 1) ls))
-        → cond b ([] ∷ partedLines ls) (toFirst l (partedLines ls))
-        ≡ take (cond b 0 (suc (before isOpening ls))) (l ∷ ls) ∷ partedLines (drop (cond b 0 (suc (before isOpening ls)) + 1) (l ∷ ls))
+        → (before isOpening ls < length ls → partedFrom false ls ≡ take (before isOpening ls) ls ∷ partedFrom true (drop (before isOpening ls + 1) ls))
+        → partedLines (cond b (opening ∷ readLines true true ls) (event l ∷ readLines true false ls))
+        ≡ take (cond b 0 (suc (before isOpening ls))) (l ∷ ls) ∷ partedFrom true (drop (cond b 0 (suc (before isOpening ls)) + 1) (l ∷ ls))
     go true k r = refl
     go false k r =
         let b = before isOpening ls in
         let e : suc (b + 1) ≡ suc b + 1 = omega arith in
-        rw (r (omega arith)) (ap (λ (j : ℕ). (l ∷ take b ls) ∷ partedLines (drop j (l ∷ ls))) e)
+        rw (r (omega arith)) (ap (λ (j : ℕ). (l ∷ take b ls) ∷ partedFrom true (drop j (l ∷ ls))) e)
 
 -- ── The lines of the table ──
 
@@ -95,7 +99,7 @@ table-lines s = go (passed-or-failed (hasEvents s))
 
 -- those that lines `events` from place a on begin, if a line begins there
 abbrev pub listsFrom : List ℕ → ℕ → List (List (List ℕ))
-listsFrom s a = drop 1 (partedLines (lines (drop a s)))
+listsFrom s a = drop 1 (partedFrom false (lines (drop a s)))
 
 -- the line `events` opens one
 opening-cut : (s : List ℕ) (a : ℕ) → a < length s → lineFrom s a ≡ bytes "events" → lines (drop a s) ≡ bytes "events" ∷ lines (drop (a + 7) s)
@@ -103,25 +107,25 @@ opening-cut s a l h =
     let k : findFrom s a 10 + 1 ≡ a + 7 = omega (arith, line-length s a l, ap length h) in
     lines-cut s a l ∙ rw (h, k)
 
-pub opening-lists : (s : List ℕ) (a : ℕ) → a < length s → lineFrom s a ≡ bytes "events" → listsFrom s a ≡ partedLines (lines (drop (a + 7) s))
+pub opening-lists : (s : List ℕ) (a : ℕ) → a < length s → lineFrom s a ≡ bytes "events" → listsFrom s a ≡ partedFrom true (lines (drop (a + 7) s))
 unfolding same
 opening-lists s a l h = rw (opening-cut s a l h)
 
-parted-there : (s : List ℕ) → hasEvents s ≡ true → partedLines (lines s) ≡ lines (tablePart s) ∷ listsFrom s (tableEnd s)
+parted-there : (s : List ℕ) → hasEvents s ≡ true → partedFrom false (lines s) ≡ lines (tablePart s) ∷ listsFrom s (tableEnd s)
 unfolding tableLines eventPart
 parted-there s h =
     parted-first (lines s) (is-line s h)
     ∙ rw (table-lines s, opening-lists s (tableEnd s) (inside s h) (line-is s h), event-lines s h)
 
-parted-not : (s : List ℕ) → hasEvents s ≡ false → partedLines (lines s) ≡ lines (tablePart s) ∷ listsFrom s (tableEnd s)
+parted-not : (s : List ℕ) → hasEvents s ≡ false → partedFrom false (lines s) ≡ lines (tablePart s) ∷ listsFrom s (tableEnd s)
 unfolding tableLines
 parted-not s h = rw (table-all s h, lines-end s (tableEnd s) (omega (arith, end-is s h))) (parted-none (lines s) (none-late s h))
 
 -- the lines before the first `events`, then the lists from it on
-parted-text : (s : List ℕ) → partedLines (lines s) ≡ lines (tablePart s) ∷ listsFrom s (tableEnd s)
+parted-text : (s : List ℕ) → partedFrom false (lines s) ≡ lines (tablePart s) ∷ listsFrom s (tableEnd s)
 parted-text s = go (passed-or-failed (hasEvents s))
   where
-    go : (hasEvents s ≡ true) ⊎ (hasEvents s ≡ false) → partedLines (lines s) ≡ lines (tablePart s) ∷ listsFrom s (tableEnd s)
+    go : (hasEvents s ≡ true) ⊎ (hasEvents s ≡ false) → partedFrom false (lines s) ≡ lines (tablePart s) ∷ listsFrom s (tableEnd s)
     go (inl h) = parted-there s h
     go (inr h) = parted-not s h
 
@@ -162,67 +166,96 @@ line-behind s b a =
     let e : a + x - a ≡ b + a + x - (b + a) = omega arith in
     rw (drop-drop a b s) (ap (λ (k : ℕ). take k (drop (b + a) s)) e)
 
+-- lines of which the first is a column line are parted as those behind it
+pub heads-list : (s : List ℕ) (b : ℕ) → partedFrom true (lines (drop b s)) ≡ partedFrom false (lines (drop (findFrom s b 10 + 1) s))
+heads-list s b = go (lt-or-ge b (length s))
+  where
+    go : (b < length s) ⊎ (length s ≤ b) → partedFrom true (lines (drop b s)) ≡ partedFrom false (lines (drop (findFrom s b 10 + 1) s))
+    go (inl l) = rw (lines-cut s b l)
+    go (inr l) = rw (lines-end s b l, lines-end s (findFrom s b 10 + 1) (omega (arith, find-from s b 10)))
+
 module _ (s : List ℕ) (a : ℕ) where
-  -- what stands behind the line `events`
+  -- where the lines of events begin, behind the line `events` and the column line
+  abbrev pub eventsAt : ℕ
+  eventsAt = findFrom s (a + 7) 10 + 1
+
   abbrev behind : List ℕ
-  behind = drop (a + 7) s
+  behind = drop eventsAt s
 
-  pub lists-next : a < length s → Opens s a → listsFrom s a ≡ lines (tablePart behind) ∷ listsFrom s (a + 7 + tableEnd behind)
-  lists-next l h = opening-lists s a l (h l) ∙ parted-text behind ∙ rw (drop-drop (tableEnd behind) (a + 7) s)
+  pub lists-next : a < length s → Opens s a → listsFrom s a ≡ lines (tablePart behind) ∷ listsFrom s (eventsAt + tableEnd behind)
+  lists-next l h = opening-lists s a l (h l) ∙ heads-list s (a + 7) ∙ parted-text behind ∙ rw (drop-drop (tableEnd behind) eventsAt s)
 
-  pub opens-next : Opens s (a + 7 + tableEnd behind)
+  pub opens-next : Opens s (eventsAt + tableEnd behind)
   opens-next l =
-      sym (line-behind s (a + 7) (tableEnd behind))
-      ∙ opens-first behind (omega (arith, length-drop (a + 7) s))
+      sym (line-behind s eventsAt (tableEnd behind))
+      ∙ opens-first behind (omega (arith, length-drop eventsAt s))
 
 -- ── Good lists ──
 
-line-event : (n : ℕ) (l : List ℕ) → isOpening l ≡ false → isListLine n l ≡ true → isEvent n l ≡ true
-unfolding isListLine
-line-event n l e h = rw e at h
-
-behind-lines : (n : ℕ) (s : List ℕ) → raggedLine (isListLine n) s ≡ 0 → every (isListLine n) (lines (drop (tableEnd s + 7) s)) ≡ true
+behind-lines : (n : ℕ) (s : List ℕ) → raggedLine true true n s ≡ 0 → every (isGood n) (readLines true true (lines (drop (tableEnd s + 7) s))) ≡ true
 unfolding eventPart
-behind-lines n s z = behind-good (isListLine n) s z .0
+behind-lines n s z = behind-good true true n s z .0
 
 -- each line of each list is an event
 abbrev pub AllEvents : ℕ → List (List (List ℕ)) → Type 0
 AllEvents n lists = every (every (isEvent n)) lists ≡ true
 
-parted-events : (n : ℕ) (ls : List (List ℕ)) → every (isListLine n) ls ≡ true → AllEvents n (partedLines ls)
+parted-events : (n : ℕ) (ls : List Line) → every (isGood n) ls ≡ true → AllEvents n (partedLines ls)
 parted-events n [] h = refl
-parted-events n (l ∷ ls) h = go (passed-or-failed (isOpening l)) (partedLines ls) (parted-events n ls (and-right (isListLine n l) (every (isListLine n) ls) h))
+parted-events n (columns l ∷ ls) h = parted-events n ls h
+parted-events n (opening ∷ ls) h = parted-events n ls h
+parted-events n (event l ∷ ls) h = go (partedLines ls) (parted-events n ls (and-right (isEvent n l) (every (isGood n) ls) h))
   where
-    event : isOpening l ≡ false → isEvent n l ≡ true
-    event e = line-event n l e (and-left (isListLine n l) (every (isListLine n) ls) h)
+    good : isEvent n l ≡ true
+    good = and-left (isEvent n l) (every (isGood n) ls) h
 
-    go : (isOpening l ≡ true) ⊎ (isOpening l ≡ false) → (ps : List (List (List ℕ))) → AllEvents n ps
-        → AllEvents n (cond (isOpening l) ([] ∷ ps) (toFirst l ps))
-    go (inl e) ps r = rw e r
-    go (inr e) [] r = rw (e, event e)
-    go (inr e) (p ∷ ps) r = rw (e, event e) r
+    go : (ps : List (List (List ℕ))) → AllEvents n ps → AllEvents n (toFirst l ps)
+    go [] r = rw good
+    go (p ∷ ps) r = rw good r
 
-pub lists-good : (n : ℕ) (s : List ℕ) → raggedLine (isListLine n) s ≡ 0 → AllEvents n (listLines s)
+pub lists-good : (n : ℕ) (s : List ℕ) → raggedLine true true n s ≡ 0 → AllEvents n (listLines s)
 lists-good n s z = rw (lists-first s) (go (passed-or-failed (hasEvents s)))
   where
     go : (hasEvents s ≡ true) ⊎ (hasEvents s ≡ false) → AllEvents n (listsFrom s (tableEnd s))
-    go (inl h) = rw (opening-lists s (tableEnd s) (inside s h) (line-is s h)) (parted-events n (lines (drop (tableEnd s + 7) s)) (behind-lines n s z))
+    go (inl h) =
+        rw (opening-lists s (tableEnd s) (inside s h) (line-is s h))
+        (parted-events n (readLines true true (lines (drop (tableEnd s + 7) s))) (behind-lines n s z))
     go (inr h) = rw (lines-end s (tableEnd s) (omega (arith, end-is s h))) refl
 
 -- ── How many lists ──
 
--- between the lists stand lines `events`
-parted-bytes : (ls : List (List ℕ)) → 7 * length (partedLines ls) + length (flatMap unlines (partedLines ls)) ≡ length (unlines ls) + 7
+-- the bytes of parted lines, with seven for each list
+abbrev listBytes : List (List (List ℕ)) → ℕ
+listBytes ps = 7 * length ps + length (flatMap unlines ps)
+
+first-bytes-more : (l : List ℕ) (ps : List (List (List ℕ))) → 1 ≤ length ps → listBytes (toFirst l ps) ≡ length l + 1 + listBytes ps
 unfolding flatMap
-parted-bytes [] = refl
-parted-bytes (l ∷ ls) = go (passed-or-failed (isOpening l)) (partedLines ls) (parted-bytes ls)
+first-bytes-more l [] h = absurd (omega arith)
+first-bytes-more l (p ∷ ps) h = simp length-append (omega (arith, length-append (unlines p) (flatMap unlines ps)))
+
+pub parted-some : (ls : List Line) → 1 ≤ length (partedLines ls)
+parted-some [] = omega arith
+parted-some (columns l ∷ ls) = parted-some ls
+parted-some (opening ∷ ls) = omega arith
+parted-some (event l ∷ ls) = go (partedLines ls) (parted-some ls)
   where
-    go : (isOpening l ≡ true) ⊎ (isOpening l ≡ false) → (ps : List (List (List ℕ))) → 7 * length ps + length (flatMap unlines ps) ≡ length (unlines ls) + 7
-        → 7 * length (cond (isOpening l) ([] ∷ ps) (toFirst l ps)) + length (flatMap unlines (cond (isOpening l) ([] ∷ ps) (toFirst l ps)))
-        ≡ length (unlines (l ∷ ls)) + 7
-    go (inl e) ps r = rw e (simp length-append (omega (arith, ap length (same-eq (bytes "events") l e))))
-    go (inr e) [] r = rw e (simp length-append (omega arith))
-    go (inr e) (p ∷ ps) r = rw e (simp length-append (omega (arith, length-append (unlines p) (flatMap unlines ps))))
+    go : (ps : List (List (List ℕ))) → 1 ≤ length ps → 1 ≤ length (toFirst l ps)
+    go [] h = omega arith
+    go (p ∷ ps) h = omega arith
+
+-- between the lists stand lines `events`, and before each but the table's a column line
+parted-bytes : (headed : Bool) (ls : List (List ℕ)) → listBytes (partedFrom headed ls) ≤ length (unlines ls) + 7
+unfolding flatMap
+parted-bytes headed [] = omega arith
+parted-bytes true (l ∷ ls) = simp length-append (omega (arith, parted-bytes false ls))
+parted-bytes false (l ∷ ls) = go (passed-or-failed (isOpening l)) (parted-bytes true ls) (parted-bytes false ls)
+  where
+    go : (isOpening l ≡ true) ⊎ (isOpening l ≡ false) → listBytes (partedFrom true ls) ≤ length (unlines ls) + 7
+        → listBytes (partedFrom false ls) ≤ length (unlines ls) + 7 → listBytes (partedFrom false (l ∷ ls)) ≤ length (unlines (l ∷ ls)) + 7
+    go (inl e) r q = rw e (simp length-append (omega (arith, ap length (same-eq (bytes "events") l e))))
+    go (inr e) r q =
+        rw e
+        (simp length-append (omega (arith, first-bytes-more l (partedFrom false ls) (parted-some (readLines true false ls)))))
 
 pub unlines-length : (s : List ℕ) → length (unlines (lines s)) ≤ length s + 1
 unfolding lines
@@ -237,9 +270,9 @@ unlines-length (x ∷ s) = go (eqb x 10) (parts 10 [] s) (unlines-length s)
 -- each list takes the bytes of its lines, and seven for its line `events`
 pub lists-bytes : (s : List ℕ) → 7 * length (listLines s) + length (flatMap unlines (listLines s)) ≤ length s + 1
 unfolding listLines flatMap
-lists-bytes s = go (partedLines (lines s)) (parted-bytes (lines s))
+lists-bytes s = go (partedFrom false (lines s)) (parted-bytes false (lines s))
   where
-    go : (ps : List (List (List ℕ))) → 7 * length ps + length (flatMap unlines ps) ≡ length (unlines (lines s)) + 7
+    go : (ps : List (List (List ℕ))) → listBytes ps ≤ length (unlines (lines s)) + 7
         → 7 * length (drop 1 ps) + length (flatMap unlines (drop 1 ps)) ≤ length s + 1
     go [] r = omega (arith, unlines-length s)
     go (p ∷ ps) r = let e = length-append (unlines p) (flatMap unlines ps) in omega (arith, unlines-length s)

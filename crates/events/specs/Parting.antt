@@ -30,7 +30,3 @@ eventsEnded input = eqb (getD input (tableEnd input + 6) 0) 10
 -- the events: the bytes behind the line `events` and its LF
 unfoldable pub eventPart : List ℕ → List ℕ
 eventPart input = drop (tableEnd input + 7) input
-
--- the line `events` and what follows; nothing where it is not there
-unfoldable pub eventsFrom : List ℕ → List ℕ
-eventsFrom input = drop (tableEnd input) input

@@ -5,7 +5,7 @@ ghost use lib.ListN.{length, set, drop};
 ghost use Rattle.text.specs.Output.{over, Writes};
 ghost use Rattle.text.specs.Inner.Writing.{WritesFrom};
 ghost use Rattle.text.specs.Inner.Kept.{kept};
-ghost use Rattle.events.specs.Listing.{isEvent, goodLine, badLine, raggedLine, eventsOf};
+ghost use Rattle.events.specs.Listing.{opens as opensList, isEvent, listPart, badLine, raggedLine, eventsOf};
 ghost use Rattle.events.specs.Inner.Answers.{answerOf, listed, lineKept, valuesKept};
 use crate::parting::split;
 use text::lines::ends_in_lf;
@@ -47,27 +47,29 @@ fn is_event(line: &[u8], n: usize) -> bool
     true
 }
 
-// Whether a line behind the first `events` is good: an event of n values or, where there are several lists, `events` again.
-fn is_good(line: &[u8], n: usize, several: bool) -> bool
-    ensures { λ r. ⌜ r ≡ goodLine several n (now (line .entry)) ⌝ }
+// Whether a line that is not a column line opens a further list: `events`, where there may be several lists.
+pub fn opens(line: &[u8], several: bool) -> bool
+    ensures { λ r. ⌜ r ≡ opensList several (now (line .entry)) ⌝ }
 {
     let again = same(b"events", line);
-    if several & again {
-        return true;
-    }
-    is_event(line, n)
+    several & again
 }
 
-// The lowest bad line of the event part, counted from 1 in it; 0 where there is none.
-fn bad_line(part: &[u8], n: usize, several: bool) -> usize
-    ensures { λ r. ⌜ (r ≡ badLine (goodLine several n) (now (part .entry))) × (r ≤ length (now (part .entry)) + 1) ⌝ }
+// The lowest bad line of the event part, counted from 1 in it; 0 where there is none. Its first line is a column line, or not.
+fn bad_line(part: &[u8], n: usize, several: bool, headed: bool) -> usize
+    ensures { λ r. ⌜ (r ≡ badLine several headed n (now (part .entry))) × (r ≤ length (now (part .entry)) + 1) ⌝ }
 {
     let mut at = 0;
     let mut k: usize = 0;
+    // the next line is a column line
+    let mut columns = headed;
     while at < part.len() {
-        if !is_good(line_from(part, at), n, several) {
+        let line = line_from(part, at);
+        let opening = !columns & opens(line, several);
+        if !(columns | opening) & !is_event(line, n) {
             return k + 1;
         }
+        columns = opening;
         at = find(part, at, b'\n') + 1;
         k += 1;
     }
@@ -129,9 +131,21 @@ pub fn rest_from(s: &[u8], a: usize) -> &[u8]
     &s[b..]
 }
 
-// The lowest bad line of an input, counted from 1 over all of it; 0 where there is none. It has one list, or several.
-pub fn ragged_line(input: &[u8], n: usize, several: bool) -> usize
-    ensures { λ r. ⌜ r ≡ raggedLine (goodLine several n) (now (input .entry)) ⌝ }
+// The lines of events in what stands behind the line `events`, without its column line where one comes first.
+fn list_part(part: &[u8], headed: bool) -> &[u8]
+    ensures { λ r. ⌜ now r ≡ listPart headed (now (part .entry)) ⌝ }
+{
+    if headed {
+        rest_from(part, find(part, 0, b'\n') + 1)
+    } else {
+        rest_from(part, 0)
+    }
+}
+
+// The lowest bad line of an input, counted from 1 over all of it; 0 where there is none. It has one list, or several; a column line comes first in each, or in
+// none.
+pub fn ragged_line(input: &[u8], n: usize, several: bool, headed: bool) -> usize
+    ensures { λ r. ⌜ r ≡ raggedLine several headed n (now (input .entry)) ⌝ }
 {
     let s = split(input);
     let found = s.found;
@@ -144,26 +158,26 @@ pub fn ragged_line(input: &[u8], n: usize, several: bool) -> usize
         return line;
     }
     let start = s.start;
-    let bad = bad_line(rest_from(input, start), n, several);
+    let bad = bad_line(rest_from(input, start), n, several, headed);
     if 0 < bad {
         return line + bad;
     }
     0
 }
 
-// Reads the events of n values that the input has into list. A list of half as many values as the input has bytes is never too
+// Reads the events of n values that the input has, behind a column line or not, into list. A list of half as many values as the input has bytes is never too
 // short (the theorem never-short).
-pub fn read_events(input: &[u8], n: usize, list: &mut [i32]) -> Answer
-    ensures { λ r. ⌜ (r ≡ answerOf (eventsOf n (now (input .entry))) (length (now (list .entry))))
-        × (now (list .exit) ≡ over (listed (eventsOf n (now (input .entry)))) (now (list .entry))) ⌝ }
+pub fn read_events(input: &[u8], n: usize, headed: bool, list: &mut [i32]) -> Answer
+    ensures { λ r. ⌜ (r ≡ answerOf (eventsOf headed n (now (input .entry))) (length (now (list .entry))))
+        × (now (list .exit) ≡ over (listed (eventsOf headed n (now (input .entry)))) (now (list .entry))) ⌝ }
 {
-    let line = ragged_line(input, n, false);
+    let line = ragged_line(input, n, false, headed);
     if 0 < line {
         return Answer::Ragged(line);
     }
     let s = split(input);
     let start = s.start;
-    let m = put_lines(list, rest_from(input, start));
+    let m = put_lines(list, list_part(rest_from(input, start), headed));
     if list.len() < m {
         return Answer::Short;
     }

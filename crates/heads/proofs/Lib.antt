@@ -1,2 +1,3 @@
--- Laws of line 1.
+-- Laws of line 1, and of column lines by it.
 pub mod HeadLaws
+pub mod ColumnLaws

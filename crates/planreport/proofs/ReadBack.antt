@@ -9,12 +9,12 @@ use lib.Dec.{eqb, ltb, leb}
 use lib.IntN.{ℤ, pos, negsuc, negℤ}
 use lib.ListN.{length, getD, take, drop, take-append-drop, length-append, length-map, drop-of-length-le}
 use lib.Seq.{drop-drop, getD-append-add}
-use borrow.Author.Tests.{le-ltb, leb-true, eq-eqb, ne-eqb, not-true}
+use borrow.Author.Tests.{le-ltb, leb-true, ne-eqb}
 use Rattle.text.specs.Bytes.{bytes, same, every, before}
 use Rattle.text.specs.Inner.Counts.{without}
 use Rattle.text.specs.Numbers.{isDigit, isNegative, unsigned, isPositive, isNumber, digitsValue, numberValue}
 use Rattle.integers.specs.Range.{inRange}
-use Rattle.text.specs.Lines.{parts, fields, lines, unlines, endsInLF, unfields}
+use Rattle.text.specs.Lines.{fields, lines, unlines, endsInLF, unfields}
 use Rattle.text.specs.Output.{decimal}
 use Rattle.text.proofs.TestLaws.{and-left, and-right, passed-or-failed, lt-or-ge}
 use Rattle.text.proofs.BytesLaws.{same-eq}
@@ -24,6 +24,7 @@ use Rattle.plans.specs.Words.{part}
 use Rattle.plans.specs.Refusals.{passed}
 use Rattle.plans.specs.Form.{lengthAt, nextAt, stepCount, stepsEnd, checkOf}
 use Rattle.runreport.specs.PlanReading.{fitsWord, isWord, wordOf, isWordLine, wordLines, unreadLine, lineWords, wordsOf}
+use Rattle.tables.proofs.TextLaws.{fields-unfields}
 use Rattle.planreport.specs.PlanText.{wordText, wordsLine, stepParts, planParts, planText}
 use Rattle.planreport.proofs.TextLaws.{length-is, plan-ends, head-length, step-length, step-next}
 
@@ -122,29 +123,7 @@ pub word-back : (w : ℤ) → fitsWord w ≡ true → wordOf (wordText w) ≡ w
 unfolding wordOf
 word-back w e = rw (text-word w e) (text-value w e)
 
--- ---- fields
-
--- a part that has no c ends at the next one, or is the last
-pub part-first : (c : ℕ) (end : List (List ℕ)) (f s : List ℕ) → without c f ≡ true → parts c end (f ++ (c ∷ s)) ≡ f ∷ parts c end s
-part-first c end [] s h = rw (eq-eqb c c refl)
-part-first c end (x ∷ f) s h =
-    let t = not-true (eqb x c) (and-left (not (eqb x c)) (without c f) h) in
-    rw (t, part-first c end f s (and-right (not (eqb x c)) (without c f) h))
-
-part-last : (c : ℕ) (f : List ℕ) → without c f ≡ true → parts c ([] ∷ []) f ≡ f ∷ []
-part-last c [] h = refl
-part-last c (x ∷ f) h =
-    let t = not-true (eqb x c) (and-left (not (eqb x c)) (without c f) h) in
-    rw (t, part-last c f (and-right (not (eqb x c)) (without c f) h))
-
--- fields without tabs are the fields of their line
-pub fields-unfields : (fs : List (List ℕ)) → 1 ≤ length fs → every (without 9) fs ≡ true → fields (unfields fs) ≡ fs
-unfolding fields
-fields-unfields [] h e = absurd (omega arith)
-fields-unfields (f ∷ []) h e = part-last 9 f (and-left (without 9 f) true e)
-fields-unfields (f ∷ (g ∷ fs)) h e =
-    part-first 9 ([] ∷ []) f (unfields (g ∷ fs)) (and-left (without 9 f) (every (without 9) (g ∷ fs)) e)
-    ∙ ap (λ (l : List (List ℕ)). f ∷ l) (fields-unfields (g ∷ fs) (omega arith) (and-right (without 9 f) (every (without 9) (g ∷ fs)) e))
+-- ---- lines
 
 append-without : (c : ℕ) (a s : List ℕ) → without c a ≡ true → without c s ≡ true → without c (a ++ s) ≡ true
 append-without c [] s h k = k

@@ -1,49 +1,86 @@
--- Laws of an input whose part before the line `events` is put in another's place: lines that are not `events`, then that line and what follows.
+-- Laws of lines that are not `events`, put before that line and the events of an input without its column line: they part the new input, and the same values
+-- are listed.
 use mathlib.Core.Path.{_≡_, refl, sym, _∙_, ap}
 use mathlib.Core.Bool.{Bool, true, false, not}
 use mathlib.Core.Logic.{_⊎_, inl, inr}
-use mathlib.Core.List.{List, [], _∷_, _++_, append-assoc, append-nil}
-use Prim.Native.Nat.{ℕ, suc, _+_, _≤_, _<_}
+use mathlib.Core.List.{List, [], _∷_, _++_, append-assoc}
+use Prim.Native.Nat.{ℕ, zero, suc, _+_, _-_, _≤_, _<_}
 use native.Mathlib.Omega.{arith}
+use lib.Dec.{eqb}
 use lib.IntN.{ℤ}
-use lib.ListN.{length, getD, take, drop, take-append-drop, length-append}
+use lib.ListN.{length, getD, drop, length-append, drop-of-length-le}
 use lib.Seq.{take-append-seam, getD-append-add, drop-drop, drop-at}
-use borrow.Author.Tests.{lt-ltb, le-ltb, not-true}
+use borrow.Author.Tests.{lt-ltb, not-true}
 use Rattle.text.specs.Bytes.{bytes, same, every, before}
 use Rattle.text.specs.Inner.Counts.{without}
-use Rattle.text.specs.Lines.{parts, lines, unlines}
-use Rattle.text.proofs.TestLaws.{and-left, and-right, passed-or-failed, lt-or-ge}
-use Rattle.text.proofs.TextTheorems.{lines-unlines}
-use Rattle.events.specs.Parting.{tableLines, hasEvents, tableEnd, tablePart, eventsEnded, eventPart, eventsFrom}
-use Rattle.events.specs.Listing.{list, ragged, isEvent, badLine, values, eventsOf}
-use Rattle.events.proofs.AnswerLaws.{events-none, events-open, events-ragged, events-listed}
-use Rattle.events.proofs.EventTheorems.{table-all, input-parted}
-use Rattle.planreport.proofs.ReadBack.{part-first}
+use Rattle.text.specs.Lines.{parts, lines, unlines, endsInLF}
+use Rattle.text.proofs.TestLaws.{true≢false, and-left, and-right, lt-or-ge}
+use Rattle.events.specs.Parting.{tableLines, hasEvents, tableEnd, tablePart, eventsEnded, eventPart}
+use Rattle.events.specs.Listing.{opening, list, readLines, isEvent, isGood, badLine, raggedLine, values, listPart, eventsOf}
+use Rattle.events.proofs.BadLine.{bad-is}
+use Rattle.events.proofs.AnswerLaws.{behind-good, list-lines, list-good, events-listed}
+use Rattle.events.proofs.EventTheorems.{listed-are}
+use Rattle.tables.proofs.TextLaws.{part-first}
 
 -- a line that is not `events`
 abbrev pub isOther : List ℕ → Bool
 isOther line = not (same (bytes "events") line)
 
 -- the line `events`, its LF, and the events
-abbrev opened : List ℕ → List ℕ
+abbrev pub opened : List ℕ → List ℕ
 opened part = bytes "events" ++ (10 ∷ part)
 
 opened-lines : (part : List ℕ) → lines (opened part) ≡ bytes "events" ∷ lines part
 unfolding lines
 opened-lines part = part-first 10 [] (bytes "events") part refl
 
--- ---- what is left of an input behind its table
+-- ---- the lines of events behind a column line
 
-cancel : (a b c : List ℕ) → a ++ b ≡ a ++ c → b ≡ c
-cancel [] b c e = e
-cancel (x ∷ a) b c e = cancel a b c (ap (drop 1) e)
+end-next : (x y : ℕ) (s : List ℕ) → endsInLF (x ∷ (y ∷ s)) ≡ endsInLF (y ∷ s)
+unfolding endsInLF
+end-next x y s =
+    let a : suc (suc (length s)) - 1 ≡ suc (length s) = omega arith in
+    let b : suc (length s) - 1 ≡ length s = omega arith in
+    rw (a, b)
 
-rest-is : (input r : List ℕ) → input ≡ tablePart input ++ r → drop (tableEnd input) input ≡ r
-unfolding tablePart
-rest-is input r e = cancel (take (tableEnd input) input) (drop (tableEnd input) input) r (take-append-drop (tableEnd input) input ∙ e)
+-- the end of a text that ends in LF does so too, or has no line
+end-behind : (k : ℕ) (s : List ℕ) → endsInLF s ≡ true → (lines (drop k s) ≡ []) ⊎ (endsInLF (drop k s) ≡ true)
+unfolding lines
+end-behind zero s e = inr e
+end-behind (suc k) [] e = inl refl
+end-behind (suc k) (x ∷ []) e = inl (rw (drop-of-length-le {A = ℕ} [] {i = k} (omega arith)))
+end-behind (suc k) (x ∷ (y ∷ s)) e = end-behind k (y ∷ s) (sym (end-next x y s) ∙ e)
 
-none-left : (input : List ℕ) → tablePart input ≡ input → drop (tableEnd input) input ≡ []
-none-left input e = rest-is input [] (sym (append-nil (tablePart input) ∙ e))
+list-ended : (part : List ℕ) → (lines part ≡ []) ⊎ (endsInLF part ≡ true) → (lines (listPart true part) ≡ []) ⊎ (endsInLF (listPart true part) ≡ true)
+unfolding listPart
+list-ended part (inl e) = inl (list-lines true part ∙ ap (drop 1) e)
+list-ended part (inr e) = end-behind (before (λ (c : ℕ). eqb c 10) part + 1) part e
+
+-- where every line is an event, none is read as a bad one
+read-good : (n : ℕ) (ls : List (List ℕ)) → every (isEvent n) ls ≡ true → (k : ℕ) → isGood n (getD (readLines false false ls) k opening) ≡ true
+read-good n [] e k = refl
+read-good n (l ∷ ls) e zero = and-left (isEvent n l) (every (isEvent n) ls) e
+read-good n (l ∷ ls) e (suc k) = read-good n ls (and-right (isEvent n l) (every (isEvent n) ls) e) k
+
+-- so the lines behind a column line have no bad one where the input has none
+list-unbroken : (n : ℕ) (input : List ℕ) → raggedLine false true n input ≡ 0 → badLine false false n (listPart true (eventPart input)) ≤ 0
+list-unbroken n input z = go (lt-or-ge 0 bad)
+  where
+    part : List ℕ
+    part = listPart true (eventPart input)
+
+    bad : ℕ
+    bad = badLine false false n part
+
+    none : (isGood n (getD (readLines false false (lines part)) (bad - 1) opening) ≡ false) ⊎ ((bad ≡ length (lines part)) × (endsInLF part ≡ false))
+        → (lines part ≡ []) ⊎ (endsInLF part ≡ true) → 0 < bad → ⊥
+    none (inl e) f l = true≢false (sym (read-good n (lines part) (list-good true n input z) (bad - 1)) ∙ e)
+    none (inr e) (inl f) l = omega (arith, e .0, ap length f)
+    none (inr e) (inr f) l = true≢false (sym f ∙ e .1)
+
+    go : (0 < bad) ⊎ (bad ≤ 0) → bad ≤ 0
+    go (inl l) = absurd (none (bad-is false false n part l) (list-ended (eventPart input) (behind-good false true n input z .1)) l)
+    go (inr l) = l
 
 module _ (ls : List (List ℕ)) (whole : every (without 10) ls ≡ true) (other : every isOther ls ≡ true) where
   -- ---- behind such lines
@@ -88,7 +125,7 @@ module _ (ls : List (List ℕ)) (whole : every (without 10) ls ≡ true) (other 
     unfolding tableEnd
     joined-end = rw (joined-has, joined-count, joined-lines, take-append-seam ls (bytes "events" ∷ lines part))
 
-    pub joined-part : tablePart (unlines ls ++ opened part) ≡ unlines ls
+    joined-part : tablePart (unlines ls ++ opened part) ≡ unlines ls
     unfolding tablePart
     joined-part = rw joined-end (take-append-seam (unlines ls) (opened part))
 
@@ -105,51 +142,17 @@ module _ (ls : List (List ℕ)) (whole : every (without 10) ls ≡ true) (other 
           (length (unlines ls)) refl,
     )
 
-    pub joined-listed : (n : ℕ) → badLine (isEvent n) part ≤ 0 → eventsOf n (unlines ls ++ opened part) ≡ list (values part)
+    joined-listed : (n : ℕ) → badLine false false n part ≤ 0 → eventsOf false n (unlines ls ++ opened part) ≡ list (values part)
+    unfolding listPart
     joined-listed n h =
         let X = unlines ls ++ opened part in
-        events-listed n X joined-has joined-ended (rw joined-events h) ∙ rw joined-events
+        events-listed false n X joined-has joined-ended (rw joined-events h) ∙ rw joined-events
 
-  -- ---- without it
-
-  alone-none : hasEvents (unlines ls) ≡ false
-  unfolding hasEvents tableLines
-  alone-none =
-      let e : lines (unlines ls) ≡ ls = lines-unlines ls whole in
-      let k : before (same (bytes "events")) ls ≡ length ls = ap (before (same (bytes "events"))) (sym (append-nil ls)) ∙ before-behind []
-      ∙ (let z : length ls + 0 ≡ length ls = omega arith in z) in
-      rw (e, k) (le-ltb (length ls) (length ls) (omega arith))
-
-  -- ---- of an input whose events are listed
-
-  module _ (n : ℕ) (input : List ℕ) (vs : List ℤ) (good : eventsOf n input ≡ list vs) where
-    abbrev Rejoined : Type 0
-    Rejoined = (tablePart (unlines ls ++ eventsFrom input) ≡ unlines ls) × (eventsOf n (unlines ls ++ eventsFrom input) ≡ list vs)
-
-    without-events : hasEvents input ≡ false → Rejoined
-    unfolding eventsFrom
-    without-events h =
-        let r : drop (tableEnd input) input ≡ [] = none-left input (table-all input h) in
-        let v : list [] ≡ list vs = sym (events-none n input h) ∙ good in
-        rw (r, append-nil (unlines ls)) (table-all (unlines ls) alone-none, events-none n (unlines ls) alone-none ∙ v)
-
-    with-events : hasEvents input ≡ true → eventsEnded input ≡ true → badLine (isEvent n) (eventPart input) ≤ 0 → Rejoined
-    unfolding eventsFrom
-    with-events h e l =
-        let r : drop (tableEnd input) input ≡ opened (eventPart input) = rest-is input (opened (eventPart input)) (input-parted input h e) in
-        let v : list (values (eventPart input)) ≡ list vs = sym (events-listed n input h e l) ∙ good in
-        rw r (joined-part (eventPart input), joined-listed (eventPart input) n l ∙ v)
-
-    -- the lines in the table's place part the input as the table does, and the same values are listed
-    pub rejoined : Rejoined
-    rejoined = go (passed-or-failed (hasEvents input)) (passed-or-failed (eventsEnded input)) (lt-or-ge 0 (badLine (isEvent n) (eventPart input)))
-      where
-        go : (hasEvents input ≡ true) ⊎ (hasEvents input ≡ false) → (eventsEnded input ≡ true) ⊎ (eventsEnded input ≡ false)
-            → (0 < badLine (isEvent n) (eventPart input)) ⊎ (badLine (isEvent n) (eventPart input) ≤ 0) → Rejoined
-        go (inr h) e l = without-events h
-        go (inl h) (inr e) l = absurd
-            (let q : ragged (tableLines input + 1) ≡ list vs = sym (events-open n input h e) ∙ good in let z : _≡_ {A = ℕ} 0 1 = cc in omega arith)
-        go (inl h) (inl e) (inl l) =
-            absurd (let q : ragged (tableLines input + 1 + badLine (isEvent n) (eventPart input)) ≡ list vs = sym (events-ragged n input h e l)
-            ∙ good in let z : _≡_ {A = ℕ} 0 1 = cc in omega arith)
-        go (inl h) (inl e) (inr l) = with-events h e l
+  -- with the events of an input that are listed, without its column line: the lines stand in the table's place, and the same values are listed
+  pub rejoined : (n : ℕ) (input : List ℕ) (vs : List ℤ) → eventsOf true n input ≡ list vs
+      → (tablePart (unlines ls ++ opened (listPart true (eventPart input))) ≡ unlines ls)
+      × (eventsOf false n (unlines ls ++ opened (listPart true (eventPart input))) ≡ list vs)
+  rejoined n input vs good =
+      let part = listPart true (eventPart input) in
+      let listed = listed-are true n input vs good in
+      (joined-part part, joined-listed part n (list-unbroken n input (listed .0)) ∙ ap list (sym (listed .1)))

@@ -23,11 +23,12 @@ use Rattle.tables.specs.Head.{dimensions, gates}
 use Rattle.tables.specs.Steps.{planWords}
 use Rattle.tables.specs.Refusals.{tableVerdict}
 use Rattle.tables.specs.Compile.{planOf}
+use Rattle.tables.specs.Columns.{columnsVerdict}
 use Rattle.tables.proofs.CompileLaws.{plan-passes}
 use Rattle.tables.proofs.CountLaws.{plan-width, counted}
 use Rattle.tables.proofs.Acceptance.{passed-accepted}
-use Rattle.events.specs.Parting.{tablePart, eventPart, eventsFrom}
-use Rattle.events.specs.Listing.{list, eventsOf}
+use Rattle.events.specs.Parting.{tablePart, eventPart}
+use Rattle.events.specs.Listing.{list, columnLines, listPart, eventsOf}
 use Rattle.events.proofs.EventTheorems.{values-complete}
 use Rattle.report.specs.Report.{tallyLines, reportOf}
 use Rattle.report.proofs.ReportTheorems.{report-tally}
@@ -40,7 +41,7 @@ use Rattle.planreport.proofs.TextLaws.{plan-few}
 use Rattle.planreport.proofs.LengthLaws.{words-short, plan-length}
 use Rattle.planreport.proofs.FittingLaws.{words-fit}
 use Rattle.planreport.proofs.ReadBack.{AllPrintable, line-words, lines-printed, parts-printable, text-read, text-readable}
-use Rattle.planreport.proofs.RejoinedLaws.{isOther, rejoined}
+use Rattle.planreport.proofs.RejoinedLaws.{isOther, opened, rejoined}
 
 -- ---- no line of words is the line `events`
 
@@ -59,8 +60,13 @@ lines-other (ws ∷ wss) g = go (passed-or-failed (same (bytes "events") (wordsL
 
 -- ---- the plan's text in the table's place
 
+-- `gatecount` takes a column line behind `events` and `gaterun` takes none, so what is run is the plan's text, the line `events`, and the lines of events
+-- behind the column line; of an input with no list there are none
+abbrev pub ranInput : List ℕ → List ℕ
+ranInput input = planReportOf (tablePart input) ++ opened (listPart true (eventPart input))
+
 module _ (input : List ℕ) (short : length input ≤ 65536) (accepted : tableVerdict 4096 (tablePart input) ≡ passed) (values : List ℤ)
-    (good : eventsOf (length (dimensions (tablePart input))) input ≡ list values) where
+    (good : eventsOf true (length (dimensions (tablePart input))) input ≡ list values) where
   passes : checkOf (planOf (tablePart input)) ≡ passed
   passes = plan-passes 4096 (tablePart input) (passed-accepted 4096 (tablePart input) accepted)
 
@@ -75,22 +81,23 @@ module _ (input : List ℕ) (short : length input ≤ 65536) (accepted : tableVe
   unfolding planOf stepCount planWords word number
   count-same = refl
 
-  printed-plan : planReportOf (tablePart input) ≡ planText (planOf (tablePart input))
+  ran-is : ranInput input ≡ planText (planOf (tablePart input)) ++ opened (listPart true (eventPart input))
   unfolding planReportOf
-  printed-plan = rw accepted
+  ran-is = rw accepted
 
-  joined-short : length (planText (planOf (tablePart input)) ++ eventsFrom input) ≤ 131072
-  unfolding eventsFrom
-  joined-short =
+  ran-short : length (planText (planOf (tablePart input)) ++ opened (listPart true (eventPart input))) ≤ 131072
+  unfolding listPart eventPart
+  ran-short =
       let p = planOf (tablePart input) in
       let few = plan-few p passes in
       let long = plan-length 12 p passes (words-short p fits) in
       simp (length-append, length-drop) (omega arith)
 
-  joined-is : (tablePart (planText (planOf (tablePart input)) ++ eventsFrom input) ≡ planText (planOf (tablePart input)))
-      × (eventsOf (length (dimensions (tablePart input))) (planText (planOf (tablePart input)) ++ eventsFrom input) ≡ list values)
+  ran-parted : (tablePart (planText (planOf (tablePart input)) ++ opened (listPart true (eventPart input))) ≡ planText (planOf (tablePart input)))
+      × (eventsOf false (length (dimensions (tablePart input))) (planText (planOf (tablePart input)) ++ opened (listPart true (eventPart input)))
+      ≡ list values)
   unfolding planText
-  joined-is =
+  ran-parted =
       let p = planOf (tablePart input) in
       let parts = planParts p in
       let g = parts-printable p fits passes in
@@ -99,25 +106,26 @@ module _ (input : List ℕ) (short : length input ≤ 65536) (accepted : tableVe
   complete : length values % width (planOf (tablePart input)) ≡ 0
   complete =
       let n = length (dimensions (tablePart input)) in
-      rw (width-same, values-complete n input values good) (mul-mod-left (length (lines (eventPart input))) n)
+      rw (width-same, values-complete true n input values good) (mul-mod-left (length (lines (listPart true (eventPart input)))) n)
 
-  pub run-tally : runReportOf (planReportOf (tablePart input) ++ eventsFrom input)
+  pub run-tally : runReportOf (ranInput input)
       ≡ numberedTally (length (regions (gates (tablePart input))))
       (tallyOf (planOf (tablePart input)) values (length values / length (dimensions (tablePart input))))
   unfolding ranText
   run-tally =
       let p = planOf (tablePart input) in
-      let whole = planText p ++ eventsFrom input in
-      let read = run-ran whole joined-short (sym (joined-is .0)) (sym (text-readable p fits passes)) (omega arith) p (sym (text-read p fits passes)) in
-      let events : eventsOf (width p) whole ≡ list values = ap (λ (n : ℕ). eventsOf n whole) width-same ∙ joined-is .1 in
+      let whole = planText p ++ opened (listPart true (eventPart input)) in
+      let read = run-ran whole ran-short (sym (ran-parted .0)) (sym (text-readable p fits passes)) (omega arith) p (sym (text-read p fits passes)) in
+      let events : eventsOf false (width p) whole ≡ list values = ap (λ (n : ℕ). eventsOf false n whole) width-same ∙ ran-parted .1 in
       let count = counted p values passes complete in
-      ap (λ (t : List ℕ). runReportOf (t ++ eventsFrom input)) printed-plan ∙ sym read ∙ rw (events, passes, count, count-same, width-same)
+      ap runReportOf ran-is ∙ sym read ∙ rw (events, passes, count, count-same, width-same)
 
   -- ---- one tally, printed by name and by number
 
-  pub same-counts : (t : Tally)
+  -- where the column line of a list is right
+  pub same-counts : columnsVerdict (tablePart input) (columnLines false input) ≡ passed → (t : Tally)
       × (reportOf input ≡ tallyLines (regions (gates (tablePart input))) t)
-      × (runReportOf (planReportOf (tablePart input) ++ eventsFrom input) ≡ numberedTally (length (regions (gates (tablePart input)))) t)
-  same-counts =
+      × (runReportOf (ranInput input) ≡ numberedTally (length (regions (gates (tablePart input)))) t)
+  same-counts right =
       let t = tallyOf (planOf (tablePart input)) values (length values / length (dimensions (tablePart input))) in
-      (t, report-tally input short accepted values good, run-tally)
+      (t, report-tally input short accepted right values good, run-tally)

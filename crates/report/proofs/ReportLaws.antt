@@ -22,9 +22,10 @@ use Rattle.tables.specs.Table.{nthRegion}
 use Rattle.tables.specs.Head.{dimensions, gates}
 use Rattle.tables.specs.Refusals.{tableVerdict}
 use Rattle.tables.specs.Compile.{planOf}
+use Rattle.tables.specs.Columns.{columnsVerdict}
 use Rattle.tables.proofs.Acceptance.{Accepted}
 use Rattle.events.specs.Parting.{tablePart}
-use Rattle.events.specs.Listing.{Events, list, ragged, eventsOf}
+use Rattle.events.specs.Listing.{Events, list, ragged, columnLines, eventsOf}
 use Rattle.events.specs.Printing.{numbersLine, countLine, takenLine, spoiltLine, refusedLine, unlessRefused}
 use Rattle.events.proofs.PrintingLaws.{Written, WrittenFrom, written-more}
 use Rattle.report.specs.Report.{regionLine, regionLines, countNumbers, tallyLines, eventsLines, printed, reportOf}
@@ -134,15 +135,19 @@ module _ (table : List ℕ) (a : Accepted 4096 table) where
       unless-fits 4096 (c .verdict) (tallyLines (regions (gates table)) (c .tally)) (omega arith)
       (λ e. omega (arith, tally-length (regions (gates table)) (c .tally) (a .rules .few) (names-short 4096 table a)))
 
-printed-fits : (table : List ℕ) (es : Events) → length (printed table es) ≤ 4096
+printed-fits : (table : List ℕ) (columns : List (List ℕ)) (es : Events) → length (printed table columns es) ≤ 4096
 unfolding printed
-printed-fits table es =
-    unless-fits 4096 (tableVerdict 4096 table) (eventsLines table es) (omega arith) (λ e. events-fit table (number-accepted 4096 table e) es)
+printed-fits table columns es =
+    unless-fits 4096 (tableVerdict 4096 table) (unlessRefused (columnsVerdict table columns) (eventsLines table es)) (omega arith)
+    (λ e.
+    unless-fits 4096 (columnsVerdict table columns) (eventsLines table es) (omega arith) (λ f. events-fit table (number-accepted 4096 table e) es))
 
 pub report-fits : (input : List ℕ) → length (reportOf input) ≤ 4096
 unfolding reportOf
 report-fits input = go (ltb 65536 (length input))
   where
-    go : (b : Bool) → length (cond b (refusedLine 1 0) (printed (tablePart input) (eventsOf (length (dimensions (tablePart input))) input))) ≤ 4096
+    go : (b : Bool)
+        → length (cond b (refusedLine 1 0)
+        (printed (tablePart input) (columnLines false input) (eventsOf true (length (dimensions (tablePart input))) input))) ≤ 4096
     go true = omega (arith, refused-length 1 0)
-    go false = printed-fits (tablePart input) (eventsOf (length (dimensions (tablePart input))) input)
+    go false = printed-fits (tablePart input) (columnLines false input) (eventsOf true (length (dimensions (tablePart input))) input)

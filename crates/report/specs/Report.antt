@@ -1,6 +1,7 @@
--- What `gatecount` prints (01: "It prints name and count per region in table order, then `taken`, `spoilt`; or `refused`, number, place").
+-- What `gatecount` prints (01: "It prints name and count per region in table order, then `taken`, `spoilt`; or `refused`, number, place"; 02: "The line
+-- directly after an `events` that opens a list is always read as this one, in 01's case too").
 use Prim.Native.Nat.{ℕ, zero, suc}
-use mathlib.Core.Bool.{cond}
+use mathlib.Core.Bool.{true, false, cond}
 use mathlib.Core.List.{List, [], _∷_, _++_}
 use lib.Dec.{ltb}
 use lib.ListN.{length, getD}
@@ -11,8 +12,9 @@ use Rattle.tables.specs.Table.{nthRegion}
 use Rattle.tables.specs.Head.{dimensions, gates}
 use Rattle.tables.specs.Refusals.{tableVerdict}
 use Rattle.tables.specs.Compile.{planOf}
+use Rattle.tables.specs.Columns.{columnsVerdict}
 use Rattle.events.specs.Parting.{tablePart}
-use Rattle.events.specs.Listing.{Events, list, ragged, eventsOf}
+use Rattle.events.specs.Listing.{Events, list, ragged, columnLines, eventsOf}
 use Rattle.events.specs.Printing.{numbersLine, takenLine, spoiltLine, refusedLine, unlessRefused}
 
 -- ---- counts
@@ -42,16 +44,17 @@ countedLines rs c = unlessRefused (c .verdict) (tallyLines rs (c .tally))
 
 -- ---- a table and its events
 
--- of an accepted table: a ragged line is 23
+-- of an accepted table and a right column line: a ragged line is 23
 abbrev pub eventsLines : List ℕ → Events → List ℕ
 eventsLines table (ragged line) = refusedLine 23 line
 eventsLines table (list values) = countedLines (regions (gates table)) (countOf (planOf table) values)
 
--- the table's refusals come before those of its events; its plan has room for 4,096 words
-unfoldable pub printed : List ℕ → Events → List ℕ
-printed table events = unlessRefused (tableVerdict 4096 table) (eventsLines table events)
+-- the table's refusals come first, then that of its column lines, then those of its events; its plan has room for 4,096 words
+unfoldable pub printed : List ℕ → List (List ℕ) → Events → List ℕ
+printed table columns events = unlessRefused (tableVerdict 4096 table) (unlessRefused (columnsVerdict table columns) (eventsLines table events))
 
 -- of a whole input (01: "up to 65,536 bytes, else refusal 1")
 unfoldable pub reportOf : List ℕ → List ℕ
 reportOf input =
-    cond (ltb 65536 (length input)) (refusedLine 1 0) (printed (tablePart input) (eventsOf (length (dimensions (tablePart input))) input))
+    cond (ltb 65536 (length input)) (refusedLine 1 0)
+    (printed (tablePart input) (columnLines false input) (eventsOf true (length (dimensions (tablePart input))) input))

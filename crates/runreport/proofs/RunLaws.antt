@@ -121,11 +121,11 @@ module _ (p : List ℤ) where
 
 -- of so many bytes
 module _ (n : ℕ) (input : List ℕ) where
-  pub listed-few : 2 * length (listed (eventsOf n input)) ≤ length input
-  listed-few = go (eventsOf n input) refl
+  pub listed-few : 2 * length (listed (eventsOf false n input)) ≤ length input
+  listed-few = go (eventsOf false n input) refl
     where
-      go : (es : Events) → eventsOf n input ≡ es → 2 * length (listed es) ≤ length input
-      go (list vs) e = omega (arith, values-few n input vs e, length-map vs clamp)
+      go : (es : Events) → eventsOf false n input ≡ es → 2 * length (listed es) ≤ length input
+      go (list vs) e = omega (arith, values-few false n input vs e, length-map vs clamp)
       go (ragged line) e = omega arith
 
   count-listed : (es : Events) (room : ℕ) → length (listed es) ≤ room → valuesRead (answerOf es room) ≡ length (listed es)
@@ -134,15 +134,15 @@ module _ (n : ℕ) (input : List ℕ) where
 
   -- k values are read over the beginning of a list with room for half as many as bytes, which became x
   module _ (d : List ℤ) {x : List ℤ} (h : length input ≤ 2 * length d) {a : Answer} {k : ℕ}
-      (e : a ≡ answerOf (eventsOf n input) (length d)) (f : x ≡ over (listed (eventsOf n input)) d) (g : k ≡ valuesRead a) where
-    value-number : k ≡ length (listed (eventsOf n input))
-    value-number = g ∙ ap valuesRead e ∙ count-listed (eventsOf n input) (length d) (omega (arith, listed-few))
+      (e : a ≡ answerOf (eventsOf false n input) (length d)) (f : x ≡ over (listed (eventsOf false n input)) d) (g : k ≡ valuesRead a) where
+    value-number : k ≡ length (listed (eventsOf false n input))
+    value-number = g ∙ ap valuesRead e ∙ count-listed (eventsOf false n input) (length d) (omega (arith, listed-few))
 
     pub values-room : k ≤ length d
     values-room = omega (arith, value-number, listed-few)
 
-    pub values-are : take k x ≡ listed (eventsOf n input)
-    values-are = written-taken (listed (eventsOf n input)) d (value-number, f) (omega (arith, listed-few))
+    pub values-are : take k x ≡ listed (eventsOf false n input)
+    values-are = written-taken (listed (eventsOf false n input)) d (value-number, f) (omega (arith, listed-few))
 
 answer-listed : (vs : List ℤ) (room : ℕ) (lines : List ℕ) → answerText (answerOf (list vs) room) lines ≡ lines
 answer-listed vs room lines = go (leb (length vs) room)
@@ -159,10 +159,10 @@ module _ (p : List ℤ) (ok : checkOf p ≡ passed) where
   answered (ragged line) room c e = refl
 
   pub events-ran : (input : List ℕ) {n k : ℕ} (room : ℕ) {a : Answer} {values : List ℤ} (c : Counted) → n ≡ width p → k ≡ stepCount p
-      → a ≡ answerOf (eventsOf n input) room → values ≡ listed (eventsOf n input) → counting c ≡ countOf p values
-      → answerText a (countText k (counting c)) ≡ ranText p (eventsOf (width p) input)
+      → a ≡ answerOf (eventsOf false n input) room → values ≡ listed (eventsOf false n input) → counting c ≡ countOf p values
+      → answerText a (countText k (counting c)) ≡ ranText p (eventsOf false (width p) input)
   unfolding ranText
-  events-ran input {n} room c f g h v e = rw (ok, h, g, ← f) (answered (eventsOf n input) room c (e ∙ ap (countOf p) v))
+  events-ran input {n} room c f g h v e = rw (ok, h, g, ← f) (answered (eventsOf false n input) room c (e ∙ ap (countOf p) v))
 
 -- ---- the whole input
 
@@ -180,7 +180,7 @@ module _ (input : List ℕ) where
     unfolding runReportOf
     run-unread l = let g : u ≡ unreadLine (tablePart input) = f ∙ ap unreadLine e in rw (le-ltb 131072 (length input) h, ← g, lt-ltb 0 u l)
 
-    pub run-ran : u ≤ 0 → (p : List ℤ) → p ≡ wordsOf part → ranText p (eventsOf (width p) input) ≡ runReportOf input
+    pub run-ran : u ≤ 0 → (p : List ℤ) → p ≡ wordsOf part → ranText p (eventsOf false (width p) input) ≡ runReportOf input
     unfolding runReportOf
     run-ran l p q =
         let g : u ≡ unreadLine (tablePart input) = f ∙ ap unreadLine e in

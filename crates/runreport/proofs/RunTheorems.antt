@@ -67,16 +67,17 @@ unfolding runReportOf ranText
 run-fits input = first (ltb 131072 (length input))
   where
     second : (b : Bool) → length
-        (cond b (unreadText (unreadLine (tablePart input))) (ranText (wordsOf (tablePart input)) (eventsOf (width (wordsOf (tablePart input))) input))) ≤ 4096
+        (cond b (unreadText (unreadLine (tablePart input)))
+        (ranText (wordsOf (tablePart input)) (eventsOf false (width (wordsOf (tablePart input))) input))) ≤ 4096
     second true = omega (arith, unread-length (unreadLine (tablePart input)))
     second false =
         let p = wordsOf (tablePart input) in
-        or-length (checkOf p) (eventsText p (eventsOf (width p) input)) (events-length p (eventsOf (width p) input))
+        or-length (checkOf p) (eventsText p (eventsOf false (width p) input)) (events-length p (eventsOf false (width p) input))
 
     first : (b : Bool)
         → length (cond b (unreadText 0)
         (cond (ltb 0 (unreadLine (tablePart input))) (unreadText (unreadLine (tablePart input)))
-        (ranText (wordsOf (tablePart input)) (eventsOf (width (wordsOf (tablePart input))) input)))) ≤ 4096
+        (ranText (wordsOf (tablePart input)) (eventsOf false (width (wordsOf (tablePart input))) input)))) ≤ 4096
     first true = omega (arith, unread-length 0)
     first false = second (ltb 0 (unreadLine (tablePart input)))
 

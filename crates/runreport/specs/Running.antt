@@ -1,6 +1,6 @@
 -- What `gaterun` prints: number and count per region, then `taken`, `spoilt`; or `refused`, number, place; or `unread` and a line.
 use Prim.Native.Nat.{ℕ, zero, suc}
-use mathlib.Core.Bool.{cond}
+use mathlib.Core.Bool.{false, cond}
 use mathlib.Core.List.{List, [], _++_}
 use lib.Dec.{ltb}
 use lib.IntN.{ℤ}
@@ -56,4 +56,4 @@ unfoldable pub runReportOf : List ℕ → List ℕ
 runReportOf input =
     cond (ltb 131072 (length input)) (unreadText 0)
     (cond (ltb 0 (unreadLine (tablePart input))) (unreadText (unreadLine (tablePart input)))
-    (ranText (wordsOf (tablePart input)) (eventsOf (width (wordsOf (tablePart input))) input)))
+    (ranText (wordsOf (tablePart input)) (eventsOf false (width (wordsOf (tablePart input))) input)))

@@ -1,5 +1,6 @@
 // The report of a run: what `gaterun` prints of a plan's text and its events.
 ghost use mathlib.Core.Path.{_≡_};
+ghost use mathlib.Core.Bool.{false};
 ghost use Prim.Native.Nat.{_≤_};
 ghost use lib.ListN.{length};
 ghost use Rattle.text.specs.Output.{Writes};
@@ -70,9 +71,10 @@ fn value_count(answer: Answer) -> usize
 // Writes what is printed of the events of an input by a plan that passes.
 fn put_events(input: &[u8], plan: &[i32], list: &mut [i32], out: &mut [u8]) -> usize
     requires { ⌜ (length (now input) ≤ 131072) × (length (now list) ≡ 65536) × (checkOf (now plan) ≡ passed) ⌝ }
-    ensures { λ r. ⌜ Writes (ranText (now (plan .entry)) (eventsOf (width (now (plan .entry))) (now (input .entry)))) (now (out .entry)) (now (out .exit)) r ⌝ }
+    ensures { λ r. ⌜ Writes (ranText (now (plan .entry)) (eventsOf false (width (now (plan .entry))) (now (input .entry))))
+        (now (out .entry)) (now (out .exit)) r ⌝ }
 {
-    let answer = read_events(input, number_at(plan, 0), list);
+    let answer = read_events(input, number_at(plan, 0), false, list);
     let m = value_count(answer);
     let counted = count(plan, &list[..m]);
     put_answer(out, number_at(plan, 1), answer, counted)
@@ -81,7 +83,8 @@ fn put_events(input: &[u8], plan: &[i32], list: &mut [i32], out: &mut [u8]) -> u
 // Writes the refusal of a plan, or what is printed of the events.
 fn put_plan(input: &[u8], plan: &[i32], list: &mut [i32], out: &mut [u8]) -> usize
     requires { ⌜ (length (now input) ≤ 131072) × (length (now list) ≡ 65536) ⌝ }
-    ensures { λ r. ⌜ Writes (ranText (now (plan .entry)) (eventsOf (width (now (plan .entry))) (now (input .entry)))) (now (out .entry)) (now (out .exit)) r ⌝ }
+    ensures { λ r. ⌜ Writes (ranText (now (plan .entry)) (eventsOf false (width (now (plan .entry))) (now (input .entry))))
+        (now (out .entry)) (now (out .exit)) r ⌝ }
 {
     let form = check(plan);
     match form {

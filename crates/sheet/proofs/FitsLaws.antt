@@ -26,12 +26,13 @@ use Rattle.tables.specs.Table.{sumOf}
 use Rattle.tables.specs.Head.{dimensions, gates}
 use Rattle.tables.specs.Refusals.{tableVerdict}
 use Rattle.tables.specs.Compile.{planOf}
+use Rattle.tables.specs.Columns.{columnsVerdict}
 use Rattle.tables.proofs.Acceptance.{Accepted}
 use Rattle.tables.proofs.CompileLaws.{head-width}
 use Rattle.tables.proofs.CountLaws.{plan-width}
 use Rattle.events.specs.Parting.{tablePart}
-use Rattle.events.specs.Listing.{isEvent, isListLine, raggedLine, lineValues, listLines, valueLists}
-use Rattle.events.specs.Printing.{numbersText, refusedLine}
+use Rattle.events.specs.Listing.{isEvent, raggedLine, columnLines, lineValues, listLines, valueLists}
+use Rattle.events.specs.Printing.{numbersText, refusedLine, unlessRefused}
 use Rattle.events.proofs.EventTheorems.{lines-values, lines-bytes}
 use Rattle.events.proofs.ListsLaws.{AllEvents, lists-good, lists-bytes}
 use Rattle.report.specs.Report.{regionLine}
@@ -108,7 +109,7 @@ module _ (n : ℕ) (some-values : 1 ≤ n) where
 -- ---- a sheet
 
 module _ (input : List ℕ) (short : length input ≤ 65536) (a : Accepted 4096 (tablePart input))
-    (whole : raggedLine (isListLine (length (dimensions (tablePart input)))) input ≡ 0) where
+    (whole : raggedLine true true (length (dimensions (tablePart input))) input ≡ 0) where
   abbrev table : List ℕ
   table = tablePart input
 
@@ -150,17 +151,22 @@ module _ (input : List ℕ) (short : length input ≤ 65536) (a : Accepted 4096 
       simp length-append (omega (arith, a .rules .few, decimal-length (eventTotal (length (dimensions table)) (valueLists input))))
 
 printed-fits : (input : List ℕ) → length input ≤ 65536
-    → length (sheetPrinted (tablePart input) (raggedLine (isListLine (length (dimensions (tablePart input)))) input) (valueLists input)) ≤ 1300000
+    → length (sheetPrinted (tablePart input) (columnLines true input) (raggedLine true true (length (dimensions (tablePart input))) input) (valueLists input))
+    ≤ 1300000
 unfolding sheetPrinted
 printed-fits input short =
-    unless-fits 1300000 (tableVerdict 4096 table) (cond (ltb 0 line) (refusedLine 23 line) (sheetLines table (valueLists input))) (omega arith)
-    (λ e. go (number-accepted 4096 table e) (passed-or-failed (ltb 0 line)))
+    unless-fits 1300000 (tableVerdict 4096 table)
+    (unlessRefused (columnsVerdict table (columnLines true input)) (cond (ltb 0 line) (refusedLine 23 line) (sheetLines table (valueLists input))))
+    (omega arith)
+    (λ e. unless-fits 1300000 (columnsVerdict table (columnLines true input))
+    (cond (ltb 0 line) (refusedLine 23 line) (sheetLines table (valueLists input))) (omega arith)
+    (λ _. go (number-accepted 4096 table e) (passed-or-failed (ltb 0 line))))
   where
     table : List ℕ
     table = tablePart input
 
     line : ℕ
-    line = raggedLine (isListLine (length (dimensions table))) input
+    line = raggedLine true true (length (dimensions table)) input
 
     go : Accepted 4096 table → (ltb 0 line ≡ true) ⊎ (ltb 0 line ≡ false)
         → length (cond (ltb 0 line) (refusedLine 23 line) (sheetLines table (valueLists input))) ≤ 1300000

@@ -1,28 +1,31 @@
 -- What compiling the table and reading the lists of an input answer, and what is printed then.
-use mathlib.Core.Path.{_≡_, refl, sym, ap, _∙_}
-use mathlib.Core.Bool.{false}
+use mathlib.Core.Path.{_≡_, sym, ap, _∙_}
+use mathlib.Core.Bool.{true, false}
 use mathlib.Core.List.{List}
-use Prim.Native.Nat.{ℕ, _+_, _*_, _<_, _≤_}
+use Prim.Native.Nat.{ℕ, _<_, _≤_}
 use native.Mathlib.Omega.{arith}
 use lib.Dec.{eqb}
 use lib.IntN.{ℤ}
 use lib.ListN.{length, take}
 use borrow.Author.Tests.{lt-ltb, le-ltb}
-use Rattle.plans.specs.Refusals.{passed}
-use Rattle.text.specs.Output.{Writes}
+use Rattle.plans.specs.Refusals.{passed, refused}
 use Rattle.gates.specs.Gate.{regions}
 use Rattle.tables.specs.Head.{dimensions, gates}
 use Rattle.tables.specs.Refusals.{tableVerdict}
+use Rattle.tables.specs.Columns.{columnsVerdict}
 use Rattle.tables.specs.Compile.{Compiling, planOf, compileOf}
 use Rattle.tables.proofs.Acceptance.{passed-accepted}
 use Rattle.tables.proofs.CompileLaws.{compiled-verdict, compiled-regions, compiled-plan}
+use Rattle.heads.specs.Answers.{columnsSaid}
+use Rattle.heads.specs.declared.Columns.{Columns}
+use Rattle.heads.specs.declared.Columns.the-variants.{Right, Wrong}
 use Rattle.compiler.specs.Answers.{tableRefusal, compiling}
 use Rattle.compiler.specs.declared.Compiled.{Compiled}
 use Rattle.compiler.specs.declared.Compiled.the-variants.{Written, Refused}
 use Rattle.compiler.specs.declared.Refusal.{Refusal}
 use Rattle.compiler.proofs.VerdictLaws.{words-fit, length-kept, refused-number}
-use Rattle.events.specs.Parting.{tableEnd, tablePart}
-use Rattle.events.specs.Listing.{isListLine, raggedLine, listLines, valueLists}
+use Rattle.events.specs.Parting.{tablePart}
+use Rattle.events.specs.Listing.{raggedLine, columnLines, valueLists}
 use Rattle.events.specs.Printing.{refusedLine}
 use Rattle.events.proofs.ListsLaws.{lists-few}
 use Rattle.sheet.specs.Sheet.{sheetLines, sheetPrinted, sheetOf}
@@ -73,10 +76,10 @@ module _ (text : List ℕ) (slice after : List ℤ) (room : length slice ≡ 409
         ap (λ (c : Compiling). take (c .words) (c .slice)) k ∙ compiled-plan text slice in-room fits
 
   module _ {f : Refusal} (e : r ≡ Refused f) where
-    pub refused-printed : (line : ℕ) (lists : List (List ℤ)) (n k : ℕ) → n ≡ tableRefusal f .number → k ≡ tableRefusal f .place
-        → refusedLine n k ≡ sheetPrinted text line lists
+    pub refused-printed : (columns : List (List ℕ)) (line : ℕ) (lists : List (List ℤ)) (n k : ℕ) → n ≡ tableRefusal f .number → k ≡ tableRefusal f .place
+        → refusedLine n k ≡ sheetPrinted text columns line lists
     unfolding sheetPrinted
-    refused-printed line lists n k g i =
+    refused-printed columns line lists n k g i =
         let z : eqb (tableRefusal f .number) 0 ≡ false = refused-number text slice (compile-is e) in
         let v : tableVerdict 4096 text ≡ tableRefusal f = sym (verdict-is e) in
         rw (v, z, g, i)
@@ -84,22 +87,37 @@ module _ (text : List ℕ) (slice after : List ℤ) (room : length slice ≡ 409
 -- ---- what is printed of an accepted table
 
 module _ (input table : List ℕ) (short : length input ≤ 65536) (is : table ≡ tablePart input) where
-  pub input-printed : {n : ℕ} → n ≡ length (dimensions table) → {line : ℕ} → line ≡ raggedLine (isListLine n) input
-      → sheetPrinted table line (valueLists input) ≡ sheetOf input
+  pub input-printed : {n : ℕ} → n ≡ length (dimensions table) → {line : ℕ} → line ≡ raggedLine true true n input
+      → sheetPrinted table (columnLines true input) line (valueLists input) ≡ sheetOf input
   unfolding sheetOf
   input-printed e f = rw (le-ltb 65536 (length input) short, f, e, is)
 
   module _ (accepted : tableVerdict 4096 table ≡ passed) (line : ℕ) where
-    pub ragged-printed : 0 < line → refusedLine 23 line ≡ sheetPrinted table line (valueLists input)
-    unfolding sheetPrinted
-    ragged-printed h = rw (accepted, lt-ltb 0 line h)
+    abbrev printed : List ℕ
+    printed = sheetPrinted table (columnLines true input) line (valueLists input)
 
-    good-printed : line ≤ 0 → sheetLines table (valueLists input) ≡ sheetPrinted table line (valueLists input)
-    unfolding sheetPrinted
-    good-printed h = rw (accepted, le-ltb 0 line h)
+    -- t is what testing the column lines of all lists answered
+    module _ (t : Columns) (tested : columnsSaid t ≡ columnsVerdict table (columnLines true input)) where
+      pub wrong-printed : {field : ℕ} → t ≡ Wrong field → refusedLine 31 field ≡ printed
+      unfolding sheetPrinted
+      wrong-printed {field} e =
+          let v : columnsVerdict table (columnLines true input) ≡ refused 31 field = sym tested ∙ ap columnsSaid e in
+          rw (accepted, v)
 
-    pub lists-printed : line ≤ 0 → {n : ℕ} → n ≡ length (dimensions table) → line ≡ raggedLine (isListLine n) input → (d x : List ℕ) → length d ≡ 627254
-        → (c : Counts) → CountedLists (planOf table) input d c x → linesBy table x (c .lists) (c .total) ≡ sheetPrinted table line (valueLists input)
-    lists-printed h {n} e f d x room c counted =
-        let good : raggedLine (isListLine n) input ≡ 0 = omega (arith, f) in
-        sheet-written table input d x accepted (rw e at good) c counted (omega (arith, lists-few input, room)) ∙ good-printed h
+      module _ (e : t ≡ Right) where
+        all-right : columnsVerdict table (columnLines true input) ≡ passed
+        all-right = sym tested ∙ ap columnsSaid e
+
+        pub ragged-printed : 0 < line → refusedLine 23 line ≡ printed
+        unfolding sheetPrinted
+        ragged-printed h = rw (accepted, all-right, lt-ltb 0 line h)
+
+        good-printed : line ≤ 0 → sheetLines table (valueLists input) ≡ printed
+        unfolding sheetPrinted
+        good-printed h = rw (accepted, all-right, le-ltb 0 line h)
+
+        pub lists-printed : line ≤ 0 → {n : ℕ} → n ≡ length (dimensions table) → line ≡ raggedLine true true n input → (d x : List ℕ) → length d ≡ 627254
+            → (c : Counts) → CountedLists (planOf table) input d c x → linesBy table x (c .lists) (c .total) ≡ printed
+        lists-printed h {n} f g d x room c counted =
+            let good : raggedLine true true n input ≡ 0 = omega (arith, g) in
+            sheet-written table input d x accepted (rw f at good) c counted (omega (arith, lists-few input, room)) ∙ good-printed h

@@ -1,6 +1,7 @@
 -- Laws of the definitions.
 pub mod ColumnLaws
 pub mod CountLaws
+pub mod ColumnLineLaws
 pub mod ListLaws
 pub mod OrderLaws
 pub mod SheetTheorems

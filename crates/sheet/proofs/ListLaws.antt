@@ -1,16 +1,15 @@
 -- Laws of sums over lists, of a number of each list's tally, and of an input with one list.
 use mathlib.Core.Path.{_≡_, refl, ap, ap₂, _∙_}
-use mathlib.Core.Bool.{Bool, true, false, not, cond}
+use mathlib.Core.Bool.{Bool, true, false, cond}
 use mathlib.Core.Logic.{_⊎_, inl, inr}
-use mathlib.Core.List.{List, [], _∷_, _++_, map, flatMap, List·Memᴰ·head as here, List·Memᴰ·tail as there}
-use Prim.Native.Nat.{ℕ, suc, _+_, _%_, _≤_, _<_}
+use mathlib.Core.List.{List, [], _∷_, _++_, map, flatMap, append-nil, List·Memᴰ·head as here, List·Memᴰ·tail as there}
+use Prim.Native.Nat.{ℕ, _%_, _≤_, _<_}
 use native.Mathlib.Omega.{arith}
 use lib.IntN.{ℤ}
 use lib.ListN.{length, drop, length-map}
-use borrow.Author.Tests.{le-ltb}
-use Rattle.text.specs.Bytes.{every, before}
-use Rattle.text.specs.Lines.{lines, endsInLF}
-use Rattle.text.proofs.TestLaws.{and-left, and-right, passed-or-failed}
+use Rattle.text.specs.Bytes.{same}
+use Rattle.text.specs.Lines.{lines}
+use Rattle.text.proofs.TestLaws.{passed-or-failed}
 use Rattle.text.proofs.LinesLaws.{lines-end}
 use Rattle.counter.specs.declared.Tally.{Tally}
 use Rattle.counter.specs.Counting.{noTally, countOf}
@@ -19,13 +18,14 @@ use Rattle.tallies.proofs.SumLaws.{none-count, together-count}
 use Rattle.tables.specs.Table.{_∈_, sumOf}
 use Rattle.tables.specs.Compile.{planOf}
 use Rattle.tables.proofs.SumLaws.{sum-same}
-use Rattle.events.specs.Parting.{tableEnd, hasEvents, eventsEnded, eventPart}
-use Rattle.events.specs.Listing.{list, isEvent, isListLine, goodLines, badLine, raggedLine, lineValues, values, eventsOf, toFirst, partedLines, listLines, valueLists}
+use Rattle.events.specs.Parting.{tableEnd, hasEvents, eventPart}
+use Rattle.events.specs.Listing.{Line, columns, opening, event, readLines, badLine, raggedLine, columnLines, list, lineValues, values, listPart, eventsOf}
+use Rattle.events.specs.Listing.{toFirst, partedLines, listLines, valueLists}
 use Rattle.events.proofs.PartingLaws.{isOpening, end-is}
-use Rattle.events.proofs.AnswerLaws.{unragged, ragged-nowhere, events-good}
-use Rattle.events.proofs.BadLine.{none-bad}
+use Rattle.events.proofs.AnswerLaws.{list-lines, events-good}
 use Rattle.events.proofs.EventTheorems.{inside, line-is}
-use Rattle.events.proofs.ListsLaws.{opening-lists, lists-first, lists-good}
+use Rattle.events.proofs.ColumnLaws.{pieces-lines}
+use Rattle.events.proofs.ListsLaws.{partedFrom, parted-some, opening-lists, lists-first}
 use Rattle.sheet.specs.Sheet.{withSum, countIn, listTallies}
 
 -- ---- lists of values
@@ -90,55 +90,100 @@ module _ {table : List ℕ} {lists : List (List ℤ)} {number : Tally → ℕ} {
   unfolding listTallies
   number-listed = ap₂ (λ (ns : List ℕ) (n : ℕ). ns ++ (n ∷ [])) (map-twice number tallyBy f lists (known .each)) number-summed
 
--- ---- lines that are all good
+-- ---- lines parted into one list
 
-all-before : (good : List ℕ → Bool) (ls : List (List ℕ)) → every good ls ≡ true → length ls ≤ before (λ line. not (good line)) ls
-all-before good [] h = omega arith
-all-before good (l ∷ ls) h =
-    let e : good l ≡ true = and-left (good l) (every good ls) h in
-    let r = all-before good ls (and-right (good l) (every good ls) h) in
-    rw e (omega arith)
+to-first-length : (l : List ℕ) (ps : List (List (List ℕ))) → 1 ≤ length ps → length (toFirst l ps) ≡ length ps
+to-first-length l [] h = absurd (omega arith)
+to-first-length l (p ∷ ps) h = refl
 
--- and whose last ends in LF
-all-good : (good : List ℕ → Bool) (part : List ℕ) → every good (lines part) ≡ true → (lines part ≡ []) ⊎ (endsInLF part ≡ true) → badLine good part ≡ 0
-unfolding badLine goodLines
-all-good good part h e = rw (le-ltb (goodLines good part) (length (lines part)) (all-before good (lines part) h)) (last (endsInLF part) e)
+-- are that list, without its column line
+parted-one : (headed : Bool) (ls : List (List ℕ)) → length (partedFrom headed ls) ≡ 1 → partedFrom headed ls ≡ drop (cond headed 1 0) ls ∷ []
+parted-one true [] h = refl
+parted-one false [] h = refl
+parted-one true (l ∷ ls) h = parted-one false ls h
+parted-one false (l ∷ ls) h = go (isOpening l) h (parted-some (readLines true true ls)) (parted-some (readLines true false ls)) (parted-one false ls)
   where
-    last : (b : Bool) → (lines part ≡ []) ⊎ (b ≡ true) → cond b 0 (length (lines part)) ≡ 0
-    last b (inr f) = rw f
-    last true (inl f) = refl
-    last false (inl f) = ap length f
+    go : (b : Bool) → length (partedLines (cond b (opening ∷ readLines true true ls) (event l ∷ readLines true false ls))) ≡ 1
+        → 1 ≤ length (partedFrom true ls) → 1 ≤ length (partedFrom false ls) → (length (partedFrom false ls) ≡ 1 → partedFrom false ls ≡ ls ∷ [])
+        → partedLines (cond b (opening ∷ readLines true true ls) (event l ∷ readLines true false ls)) ≡ (l ∷ ls) ∷ []
+    go true k s t r = absurd (omega arith)
+    go false k s t r = rw (r (omega (arith, to-first-length l (partedFrom false ls) t)))
 
--- ---- lines parted into one list are that list
+-- they are read alike where there may be several lists and where there is one; so is an empty line behind them
+abbrev behindLast : Bool → List (List ℕ)
+behindLast last = cond last ([] ∷ []) []
 
-parted-some : (ls : List (List ℕ)) → 1 ≤ length (partedLines ls)
-parted-some [] = omega arith
-parted-some (l ∷ ls) = go (isOpening l) (partedLines ls)
+last-alike : (headed last : Bool) → readLines true headed (behindLast last) ≡ readLines false headed (behindLast last)
+unfolding same
+last-alike true true = refl
+last-alike true false = refl
+last-alike false true = refl
+last-alike false false = refl
+
+read-alike : (headed last : Bool) (ls : List (List ℕ)) → length (partedFrom headed ls) ≡ 1
+    → readLines true headed (ls ++ behindLast last) ≡ readLines false headed (ls ++ behindLast last)
+read-alike headed last [] h = last-alike headed last
+read-alike true last (l ∷ ls) h = ap (λ (rs : List Line). columns l ∷ rs) (read-alike false last ls h)
+read-alike false last (l ∷ ls) h = go (isOpening l) h (parted-some (readLines true true ls)) (parted-some (readLines true false ls)) (read-alike false last ls)
   where
-    go : (b : Bool) (ps : List (List (List ℕ))) → 1 ≤ length (cond b ([] ∷ ps) (toFirst l ps))
-    go true ps = omega arith
-    go false [] = omega arith
-    go false (p ∷ ps) = omega arith
+    go : (b : Bool) → length (partedLines (cond b (opening ∷ readLines true true ls) (event l ∷ readLines true false ls))) ≡ 1
+        → 1 ≤ length (partedFrom true ls) → 1 ≤ length (partedFrom false ls)
+        → (length (partedFrom false ls) ≡ 1 → readLines true false (ls ++ behindLast last) ≡ readLines false false (ls ++ behindLast last))
+        → cond b (opening ∷ readLines true true (ls ++ behindLast last)) (event l ∷ readLines true false (ls ++ behindLast last))
+        ≡ event l ∷ readLines false false (ls ++ behindLast last)
+    go true k s t r = absurd (omega arith)
+    go false k s t r = rw (r (omega (arith, to-first-length l (partedFrom false ls) t)))
 
-parted-one : (ls : List (List ℕ)) → length (partedLines ls) ≡ 1 → partedLines ls ≡ ls ∷ []
-parted-one [] h = refl
-parted-one (l ∷ ls) h = go (isOpening l) (partedLines ls) (parted-some ls) (parted-one ls) h
-  where
-    go : (b : Bool) (ps : List (List (List ℕ))) → 1 ≤ length ps → (length ps ≡ 1 → ps ≡ ls ∷ []) → length (cond b ([] ∷ ps) (toFirst l ps)) ≡ 1
-        → cond b ([] ∷ ps) (toFirst l ps) ≡ (l ∷ ls) ∷ []
-    go true ps s r k = absurd (omega arith)
-    go false [] s r k = absurd (omega arith)
-    go false (p ∷ ps) s r k = ap (toFirst l) (r k)
+-- ---- an input without a further `events`
 
--- ---- an input with one list: it has the events that the input has where one list is read
-
-module _ (n : ℕ) (input : List ℕ) (good : raggedLine (isListLine n) input ≡ 0) (vs : List ℤ) (one : valueLists input ≡ vs ∷ []) where
+module _ (input : List ℕ) (few : length (listLines input) ≤ 1) where
   abbrev behind : List (List ℕ)
   behind = lines (eventPart input)
 
+  module _ (h : hasEvents input ≡ true) where
+    lists-are : listLines input ≡ partedFrom true behind
+    unfolding eventPart
+    lists-are = lists-first input ∙ opening-lists input (tableEnd input) (inside input h) (line-is input h)
+
+    parted-once : length (partedFrom true behind) ≡ 1
+    parted-once = omega (arith, few, ap length lists-are, parted-some (readLines true true behind))
+
+    pub one-list-there : listLines input ≡ drop 1 behind ∷ []
+    one-list-there = lists-are ∙ parted-one true behind parted-once
+
+  -- the lowest bad line is that where one list is read
+  bad-alike : (n : ℕ) → length (partedFrom true behind) ≡ 1 → badLine true true n (eventPart input) ≡ badLine false true n (eventPart input)
+  unfolding badLine
+  bad-alike n h = let e = rw append-nil at (read-alike true false behind h) in rw e
+
+  pub same-line : (n : ℕ) → raggedLine true true n input ≡ raggedLine false true n input
+  unfolding raggedLine
+  same-line n = go (passed-or-failed (hasEvents input))
+    where
+      go : (hasEvents input ≡ true) ⊎ (hasEvents input ≡ false) → raggedLine true true n input ≡ raggedLine false true n input
+      go (inr h) = rw h
+      go (inl h) = rw (bad-alike n (parted-once h))
+
+  -- and so are the column lines
+  pub same-columns : columnLines true input ≡ columnLines false input
+  unfolding columnLines
+  same-columns = go (passed-or-failed (hasEvents input))
+    where
+      go : (hasEvents input ≡ true) ⊎ (hasEvents input ≡ false) → columnLines true input ≡ columnLines false input
+      go (inr h) = rw h
+      go (inl h) =
+          let pieces = pieces-lines (eventPart input) in
+          rw (pieces .1, read-alike true (pieces .0) behind (parted-once h))
+
+-- ---- an input with one list: it has the events that the input has where one list is read
+
+module _ (n : ℕ) (input : List ℕ) (good : raggedLine true true n input ≡ 0) (vs : List ℤ) (one : valueLists input ≡ vs ∷ []) where
   listed-values : map (flatMap lineValues) (listLines input) ≡ vs ∷ []
   unfolding valueLists
   listed-values = one
+
+  pub one-there : length (listLines input) ≤ 1
+  one-there = omega (arith, length-map (listLines input) (flatMap lineValues), ap length listed-values)
 
   none-there : hasEvents input ≡ false → ⊥
   none-there h =
@@ -146,61 +191,15 @@ module _ (n : ℕ) (input : List ℕ) (good : raggedLine (isListLine n) input �
       let z = rw none at listed-values in
       omega (arith, ap length z)
 
-  module _ (h : hasEvents input ≡ true) where
-    lists-are : listLines input ≡ partedLines behind
-    unfolding eventPart
-    lists-are = lists-first input ∙ opening-lists input (tableEnd input) (inside input h) (line-is input h)
+  its-values : hasEvents input ≡ true → values (listPart true (eventPart input)) ≡ vs
+  unfolding values
+  its-values h =
+      let e = rw (one-list-there input one-there h) at listed-values in
+      rw (list-lines true (eventPart input)) (let f : flatMap lineValues (drop 1 (lines (eventPart input))) ≡ vs = cc in f)
 
-    -- no further `events` stands behind the first
-    one-list-there : listLines input ≡ behind ∷ []
-    one-list-there =
-        lists-are
-        ∙ parted-one behind (omega (arith, ap length lists-are, length-map (listLines input) (flatMap lineValues), ap length listed-values))
-
-    its-values : values (eventPart input) ≡ vs
-    unfolding values
-    its-values = let e = rw one-list-there at listed-values in cc
-
-    all-events : every (isEvent n) behind ≡ true
-    all-events = let e = rw one-list-there at (lists-good n input good) in and-left (every (isEvent n) behind) true e
-
-  pub one-events : eventsOf n input ≡ list vs
-  one-events = go (unragged (isListLine n) input good)
+  pub one-events : eventsOf true n input ≡ list vs
+  one-events = go (passed-or-failed (hasEvents input))
     where
-      go : (hasEvents input ≡ false) ⊎ ((hasEvents input ≡ true) × (eventsEnded input ≡ true) × (badLine (isListLine n) (eventPart input) ≡ 0))
-          → eventsOf n input ≡ list vs
-      go (inl h) = absurd (none-there h)
-      go (inr h) =
-          let e = all-good (isEvent n) (eventPart input) (all-events (h .0)) (none-bad (isListLine n) (eventPart input) (h .2) .1) in
-          events-good n input (omega (arith, ragged-nowhere (isEvent n) input (h .0) (h .1) (omega (arith, e)))) ∙ ap list (its-values (h .0))
-
--- ---- an input without a further `events`: the lowest bad line is that where one list is read
-
-lines-alike : (n : ℕ) (ls : List (List ℕ)) → length (partedLines ls) ≡ 1 → before (λ l. not (isListLine n l)) ls ≡ before (λ l. not (isEvent n l)) ls
-unfolding isListLine
-lines-alike n [] h = refl
-lines-alike n (l ∷ ls) h = go (passed-or-failed (isOpening l)) (partedLines ls) (parted-some ls) h (lines-alike n ls)
-  where
-    go : (isOpening l ≡ true) ⊎ (isOpening l ≡ false) → (ps : List (List (List ℕ))) → 1 ≤ length ps
-        → length (cond (isOpening l) ([] ∷ ps) (toFirst l ps)) ≡ 1
-        → (length ps ≡ 1 → before (λ k. not (isListLine n k)) ls ≡ before (λ k. not (isEvent n k)) ls)
-        → before (λ k. not (isListLine n k)) (l ∷ ls) ≡ before (λ k. not (isEvent n k)) (l ∷ ls)
-    go (inl e) ps s k r = absurd (let z : suc (length ps) ≡ 1 = rw e at k in omega arith)
-    go (inr e) [] s k r = absurd (omega arith)
-    go (inr e) (p ∷ ps) s k r = let z : suc (length ps) ≡ 1 = rw e at k in rw (e, r z)
-
-bad-alike : (n : ℕ) (part : List ℕ) → length (partedLines (lines part)) ≡ 1 → badLine (isListLine n) part ≡ badLine (isEvent n) part
-unfolding badLine goodLines
-bad-alike n part h = rw (lines-alike n (lines part) h)
-
-pub same-line : (n : ℕ) (input : List ℕ) → length (listLines input) ≤ 1 → raggedLine (isListLine n) input ≡ raggedLine (isEvent n) input
-unfolding raggedLine eventPart
-same-line n input few = go (passed-or-failed (hasEvents input))
-  where
-    go : (hasEvents input ≡ true) ⊎ (hasEvents input ≡ false) → raggedLine (isListLine n) input ≡ raggedLine (isEvent n) input
-    go (inr h) = rw h
-    go (inl h) =
-        let part = drop (tableEnd input + 7) input in
-        let lists = lists-first input ∙ opening-lists input (tableEnd input) (inside input h) (line-is input h) in
-        let one : length (partedLines (lines part)) ≡ 1 = omega (arith, ap length lists, parted-some (lines part)) in
-        rw (bad-alike n part one)
+      go : (hasEvents input ≡ true) ⊎ (hasEvents input ≡ false) → eventsOf true n input ≡ list vs
+      go (inr h) = absurd (none-there h)
+      go (inl h) = events-good true n input (omega (arith, same-line input one-there n, good)) ∙ ap list (its-values h)

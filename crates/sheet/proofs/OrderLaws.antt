@@ -16,12 +16,14 @@ use Rattle.tables.specs.Head.{dimensions, gates, LineOrder, reordered}
 use Rattle.tables.specs.Members.{member, unclaimed}
 use Rattle.tables.specs.Refusals.{tableVerdict}
 use Rattle.tables.specs.Compile.{planOf}
+use Rattle.tables.specs.Columns.{rightLine}
 use Rattle.tables.specs.TableCount.{countTableOf}
 use Rattle.tables.specs.Demand.{dims, eventCount, countOfParent, Demand3}
 use Rattle.tables.proofs.ListLaws.{map-in, map-from}
 use Rattle.tables.proofs.GateLaws.{orderly}
 use Rattle.tables.proofs.Acceptance.{accepted-passed}
 use Rattle.tables.proofs.OrderedAgain.{OrderedAgain, ordered-again}
+use Rattle.tables.proofs.ColumnTheorems.{right-line-is}
 use Rattle.tables.proofs.Demand.{demand-3}
 use Rattle.sheet.specs.Sheet.{withSum, countIn, regionNumbers, listTallies}
 use Rattle.sheet.proofs.ListLaws.{Complete, taken-adds, unclaimed-adds, spoilt-adds, count-adds, Known, allListed, number-summed, number-listed}
@@ -60,10 +62,10 @@ module _ (text : List ℕ) (accepted : tableVerdict 4096 text ≡ passed) (ks : 
   both : OrderedAgain text again
   both = rw e (ordered-again text accepted ks order)
 
-  kept : (vs : List ℤ) → vs ∈ lists → Demand3 text again vs (countTableOf again slice vs)
-  kept vs m = demand-3 again slice vs text accepted ks order e room (complete vs m)
+  kept : (vs : List ℤ) → vs ∈ lists → Demand3 text again vs (countTableOf again (rightLine text) slice vs)
+  kept vs m = demand-3 again (rightLine text) slice vs text accepted ks order e (right-line-is 4096 text accepted) room (complete vs m)
 
-  its-tally : (vs : List ℤ) → vs ∈ lists → countOf (planOf again) vs .tally ≡ countTableOf again slice vs .tally
+  its-tally : (vs : List ℤ) → vs ∈ lists → countOf (planOf again) vs .tally ≡ countTableOf again (rightLine text) slice vs .tally
   its-tally vs m =
       let d = kept vs m in
       ap (λ (p : List ℤ). countOf p vs .tally) (sym (d .its-plan)) ∙ ap (λ (c : Counting). c .tally) (d .counting)

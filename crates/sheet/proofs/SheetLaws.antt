@@ -1,27 +1,22 @@
 -- What is written from the columns is the sheet.
-use mathlib.Core.Path.{_≡_, refl, sym, ap, ap₂, _∙_}
-use mathlib.Core.List.{List, [], _∷_, _++_, map, flatMap, append-assoc}
-use Prim.Native.Nat.{ℕ, zero, suc, _+_, _*_, _<_, _≤_}
+use mathlib.Core.Path.{_≡_, refl, sym, ap, _∙_}
+use mathlib.Core.Bool.{true}
+use mathlib.Core.List.{List, [], _∷_, map, flatMap, append-assoc}
+use Prim.Native.Nat.{ℕ, _+_, _*_, _<_, _≤_}
 use native.Mathlib.Omega.{arith}
 use lib.IntN.{ℤ}
 use lib.ListN.{length, getD}
-use Rattle.text.specs.Bytes.{bytes}
 use Rattle.text.specs.Output.{over}
 use Rattle.plans.specs.Refusals.{passed}
 use Rattle.counter.specs.declared.Tally.{Tally}
 use Rattle.counter.specs.Counting.{countOf}
 use Rattle.tallies.specs.Sums.{total}
 use Rattle.gates.specs.Gate.{regions}
-use Rattle.tables.specs.Table.{nthRegion}
 use Rattle.tables.specs.Head.{dimensions, gates}
 use Rattle.tables.specs.Refusals.{tableVerdict}
 use Rattle.tables.specs.Compile.{planOf}
-use Rattle.tables.specs.Demand.{countOfParent}
-use Rattle.tables.proofs.Acceptance.{Accepted, passed-accepted}
-use Rattle.events.specs.Listing.{isListLine, raggedLine, lineValues, listLines, valueLists}
-use Rattle.events.specs.Printing.{numbersLine}
-use Rattle.stepwriter.specs.Inner.Parents.{numberOfParent}
-use Rattle.report.specs.Report.{regionLines}
+use Rattle.tables.proofs.Acceptance.{passed-accepted}
+use Rattle.events.specs.Listing.{raggedLine, lineValues, listLines, valueLists}
 use Rattle.report.proofs.ReportLaws.{lines-same}
 use Rattle.report.proofs.ParentLaws.{parent-count}
 use Rattle.sheet.specs.Sheet.{countIn, share, regionNumbers, summaryLine, summaries, eventTotal, listTallies, sheetLines}
@@ -44,7 +39,7 @@ tallies-are table input = go (listLines input)
     go (ls ∷ lists) = ap (λ (ts : List Tally). countOf (planOf table) (flatMap lineValues ls) .tally ∷ ts) (go lists)
 
 -- an accepted table, no bad line, and the numbers of the lists written over d, which became x
-module _ (table input d x : List ℕ) (accepted : tableVerdict 4096 table ≡ passed) (good : raggedLine (isListLine (length (dimensions table))) input ≡ 0)
+module _ (table input d x : List ℕ) (accepted : tableVerdict 4096 table ≡ passed) (good : raggedLine true true (length (dimensions table)) input ≡ 0)
     (c : Counts) (counted : CountedLists (planOf table) input d c x) (room : length (listLines input) * 67 ≤ length d) where
   abbrev ts : List Tally
   ts = talliesOf (planOf table) (listLines input)

@@ -1,7 +1,7 @@
 -- What a sheet means to a reader: its events are those of its lists, its sums are those of one count over the joined lists, with one list it is what
 -- `gatecount` prints, and the order of the table's lines moves no number.
 use mathlib.Core.Path.{_≡_, refl, sym, ap, ap₂, _∙_}
-use mathlib.Core.Bool.{false}
+use mathlib.Core.Bool.{true, false}
 use mathlib.Core.Logic.{⊎-elim}
 use mathlib.Core.List.{List, [], _∷_, _++_, flatMap, append-assoc, append-nil, Permᴰ·refl}
 use mathlib.Core.List.{List·Memᴰ·head as here, List·Memᴰ·tail as there, List·Memᴰ·cases-cons, List·Memᴰ·not-nil}
@@ -25,14 +25,16 @@ use Rattle.tables.specs.Table.{_∈_, numberOf, sumOf, nthRegion}
 use Rattle.tables.specs.Head.{dimensions, gateLines, gates, LineOrder, reordered}
 use Rattle.tables.specs.Refusals.{tableVerdict}
 use Rattle.tables.specs.Compile.{planOf}
+use Rattle.tables.specs.Columns.{columnsVerdict}
 use Rattle.tables.proofs.ListLaws.{every-at, map-from}
 use Rattle.tables.proofs.SumLaws.{sum-same, sum-add}
 use Rattle.tables.proofs.Acceptance.{passed-accepted}
 use Rattle.tables.proofs.ReorderLaws.{own-order}
+use Rattle.tables.proofs.ColumnTheorems.{verdict-in-any-order}
 use Rattle.tables.proofs.CompileLaws.{plan-passes}
 use Rattle.tables.proofs.CountLaws.{plan-width, counted}
 use Rattle.events.specs.Parting.{tablePart}
-use Rattle.events.specs.Listing.{isEvent, isListLine, raggedLine, lineValues, listLines, valueLists}
+use Rattle.events.specs.Listing.{isEvent, raggedLine, columnLines, lineValues, listLines, valueLists}
 use Rattle.events.specs.Printing.{numbersLine, countLine, takenLine, spoiltLine}
 use Rattle.events.proofs.EventTheorems.{lines-values}
 use Rattle.events.proofs.AnswerLaws.{events-bad}
@@ -40,12 +42,12 @@ use Rattle.events.proofs.ListsLaws.{lists-good}
 use Rattle.report.specs.Report.{regionLines, countNumbers, tallyLines, printed, reportOf}
 use Rattle.report.proofs.ReportTheorems.{report-tally}
 use Rattle.sheet.specs.Sheet.{withSum, regionNumbers, Summary, ofTaken, ofSpoilt, summaries, eventTotal, listTallies, sheetLines, sheetPrinted, sheetOf}
-use Rattle.sheet.proofs.ListLaws.{Complete, sum-map, taken-adds, spoilt-adds, one-events, same-line}
+use Rattle.sheet.proofs.ListLaws.{Complete, sum-map, taken-adds, spoilt-adds, one-there, one-events, same-line, same-columns}
 use Rattle.sheet.proofs.OrderLaws.{NumbersBy, numbers-by}
 
 -- ---- the lists of an input without a bad line
 
-module _ (n : ℕ) (input : List ℕ) (good : raggedLine (isListLine n) input ≡ 0) where
+module _ (n : ℕ) (input : List ℕ) (good : raggedLine true true n input ≡ 0) where
   -- n values for each line
   list-values : (ls : List (List ℕ)) → ls ∈ listLines input → length (flatMap lineValues ls) ≡ length ls * n
   list-values ls m = lines-values n ls (every-at (every (isEvent n)) m (lists-good n input good))
@@ -139,16 +141,23 @@ module _ (input : List ℕ) where
   unfolding sheetOf reportOf sheetPrinted printed
   table-alike h z = rw (le-ltb 65536 (length input) h, z)
 
-  -- and so it does where a line behind the table is bad and there is no further `events`
-  pub ragged-alike : length input ≤ 65536 → tableVerdict 4096 (tablePart input) ≡ passed → length (listLines input) ≤ 1
-      → 0 < raggedLine (isListLine (length (dimensions (tablePart input)))) input → sheetOf input ≡ reportOf input
-  unfolding sheetOf reportOf sheetPrinted printed
-  ragged-alike h accepted few bad =
-      let n = length (dimensions (tablePart input)) in
-      let same = same-line n input few in
-      let line = raggedLine (isEvent n) input in
-      let there : 0 < line = omega (arith, same) in
-      rw (le-ltb 65536 (length input) h, accepted, same, lt-ltb 0 line there, events-bad n input there)
+  -- and so it does where there is no further `events` and the column line is wrong, or a line behind the table is bad
+  module _ (short : length input ≤ 65536) (accepted : tableVerdict 4096 (tablePart input) ≡ passed) (few : length (listLines input) ≤ 1) where
+    pub columns-alike : eqb (columnsVerdict (tablePart input) (columnLines true input) .number) 0 ≡ false → sheetOf input ≡ reportOf input
+    unfolding sheetOf reportOf sheetPrinted printed
+    columns-alike z =
+        let same = same-columns input few in
+        let y : eqb (columnsVerdict (tablePart input) (columnLines false input) .number) 0 ≡ false = rw same at z in
+        rw (le-ltb 65536 (length input) short, accepted, same, y)
+
+    pub ragged-alike : 0 < raggedLine true true (length (dimensions (tablePart input))) input → sheetOf input ≡ reportOf input
+    unfolding sheetOf reportOf sheetPrinted printed
+    ragged-alike bad =
+        let n = length (dimensions (tablePart input)) in
+        let same = same-line input few n in
+        let line = raggedLine false true n input in
+        let there : 0 < line = omega (arith, same) in
+        rw (le-ltb 65536 (length input) short, accepted, same-columns input few, same, lt-ltb 0 line there, events-bad true n input there)
 
 -- ---- one list
 
@@ -180,11 +189,12 @@ tally-lines rs t =
     ∙ ap (λ (l : List ℕ). regionLines rs (countNumbers (t .counts)) (length rs) ++ (takenLine (t .taken) ++ l)) (sym (append-nil spoilt))
 
 module _ (input : List ℕ) (short : length input ≤ 65536) (accepted : tableVerdict 4096 (tablePart input) ≡ passed)
-    (good : raggedLine (isListLine (length (dimensions (tablePart input)))) input ≡ 0) where
+    (right : columnsVerdict (tablePart input) (columnLines true input) ≡ passed)
+    (good : raggedLine true true (length (dimensions (tablePart input))) input ≡ 0) where
   -- nothing is refused: the sheet is that of the input's lists
   pub sheet-lines : sheetOf input ≡ sheetLines (tablePart input) (valueLists input)
   unfolding sheetOf sheetPrinted
-  sheet-lines = rw (le-ltb 65536 (length input) short, accepted, good)
+  sheet-lines = rw (le-ltb 65536 (length input) short, accepted, right, good)
 
   module _ (vs : List ℤ) (one : valueLists input ≡ vs ∷ []) where
     its-tally : countOf (planOf (tablePart input)) vs .tally
@@ -202,9 +212,10 @@ module _ (input : List ℕ) (short : length input ≤ 65536) (accepted : tableVe
     unfolding regionNumbers listTallies
     one-list =
         let table = tablePart input in
+        let n = length (dimensions table) in
         let rs = regions (gates table) in (
           sheet-lines ∙ ap (sheetLines table) one,
-          report-tally input short accepted vs (one-events (length (dimensions table)) input good vs one)
+          report-tally input short accepted (rw (same-columns input (one-there n input good vs one)) at right) vs (one-events n input good vs one)
               ∙ ap (tallyLines rs) (sym its-tally)
               ∙ tally-lines rs (countOf (planOf table) vs .tally),
         )
@@ -224,6 +235,8 @@ pub record OrderFree (text again : List ℕ) (lists : List (List ℤ)) : Type 0 
       ≡ regionNumbers text (listTallies text lists) (numberOf (regions (gates text)) (r .name))
   -- and so have `taken`, `unclaimed` and `spoilt`
   pub summed : (s : Summary) → s ∈ summaries → withSum (s .number) (listTallies again lists) ≡ withSum (s .number) (listTallies text lists)
+  -- the same column lines are right, and wrong ones are refused alike
+  pub same-columns : (columns : List (List ℕ)) → columnsVerdict again columns ≡ columnsVerdict text columns
   -- the total of all events is the same
   pub same-events : eventTotal (length (dimensions again)) lists ≡ eventTotal (length (dimensions text)) lists
 
@@ -253,5 +266,6 @@ module _ (text : List ℕ) (accepted : tableVerdict 4096 text ≡ passed) (ks : 
     found = numbers-again .found;
     by-name = λ r m. numbers-again .region-listed r m ∙ sym (numbers-own .region-listed r m);
     summed = same-summary;
+    same-columns = λ columns. rw e (verdict-in-any-order 4096 text accepted ks order columns);
     same-events = ap (λ (n : ℕ). eventTotal n lists) (numbers-again .same-n);
   }

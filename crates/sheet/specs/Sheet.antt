@@ -3,7 +3,7 @@
 -- sum as two whole numbers over all lists, count and parent's count (without a parent, the taken), never divided"; "The last line is `events` and the
 -- total of all events").
 use Prim.Native.Nat.{ℕ, _/_}
-use mathlib.Core.Bool.{cond}
+use mathlib.Core.Bool.{true, cond}
 use mathlib.Core.List.{List, [], _∷_, _++_, map, flatMap}
 use lib.Dec.{ltb}
 use lib.IntN.{ℤ}
@@ -17,9 +17,10 @@ use Rattle.tables.specs.Table.{sumOf, nthRegion}
 use Rattle.tables.specs.Head.{dimensions, gates}
 use Rattle.tables.specs.Refusals.{tableVerdict}
 use Rattle.tables.specs.Compile.{planOf}
+use Rattle.tables.specs.Columns.{columnsVerdict}
 use Rattle.tables.specs.Demand.{countOfParent}
 use Rattle.events.specs.Parting.{tablePart}
-use Rattle.events.specs.Listing.{isListLine, raggedLine, valueLists}
+use Rattle.events.specs.Listing.{raggedLine, columnLines, valueLists}
 use Rattle.events.specs.Printing.{numbersLine, refusedLine, unlessRefused}
 use Rattle.report.specs.Report.{regionLines}
 
@@ -77,12 +78,15 @@ sheetLines table lists =
     (regionLines (regions (gates table)) (regionNumbers table tallies) (length (regions (gates table))) ++ flatMap (summaryLine tallies) summaries)
     ++ numbersLine (bytes "events") (eventTotal (length (dimensions table)) lists ∷ [])
 
--- the table's refusals come before those of its lists; its plan has room for 4,096 words
-unfoldable pub sheetPrinted : List ℕ → ℕ → List (List ℤ) → List ℕ
-sheetPrinted table line lists = unlessRefused (tableVerdict 4096 table) (cond (ltb 0 line) (refusedLine 23 line) (sheetLines table lists))
+-- the table's refusals come first, then that of the first wrong column line of all lists, then that of the lowest bad line; its plan has room for 4,096 words
+unfoldable pub sheetPrinted : List ℕ → List (List ℕ) → ℕ → List (List ℤ) → List ℕ
+sheetPrinted table columns line lists =
+    unlessRefused (tableVerdict 4096 table)
+    (unlessRefused (columnsVerdict table columns)
+    (cond (ltb 0 line) (refusedLine 23 line) (sheetLines table lists)))
 
 -- of a whole input, up to 65,536 bytes
 unfoldable pub sheetOf : List ℕ → List ℕ
 sheetOf input =
     cond (ltb 65536 (length input)) (refusedLine 1 0)
-    (sheetPrinted (tablePart input) (raggedLine (isListLine (length (dimensions (tablePart input)))) input) (valueLists input))
+    (sheetPrinted (tablePart input) (columnLines true input) (raggedLine true true (length (dimensions (tablePart input))) input) (valueLists input))

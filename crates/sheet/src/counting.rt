@@ -17,6 +17,7 @@ use events::listing::put_lines;
 use events::listing::rest_from;
 use events::parting::split;
 use tallies::sum;
+use text::lines::find;
 use text::output::lesser;
 
 // How many lists there are, and the sum of their tallies.
@@ -84,14 +85,15 @@ pub fn count_lists(
     let mut lists: usize = 0;
     let mut total = no_tally();
     while at < input.len() {
-        let rest = rest_from(input, at + 7);
-        let parted = split(rest);
+        let begin = find(input, at + 7, b'\n') + 1;
+        let part = rest_from(input, begin);
+        let parted = split(part);
         let end = parted.table;
-        let tally = count_list(&rest[..end], plan, list);
+        let tally = count_list(&part[..end], plan, list);
         put_numbers_from(columns, lists * 67, tally);
         total = sum(total, tally);
         lists += 1;
-        at += 7 + end;
+        at = begin + end;
     }
     Counts { lists, total }
 }

@@ -1,4 +1,5 @@
 // The sheet of a whole input: what `gatesheet` prints.
+mod columns;
 mod counting;
 mod printing;
 
@@ -7,6 +8,7 @@ ghost use Prim.Native.Nat.{_≤_};
 ghost use lib.ListN.{length};
 ghost use Rattle.text.specs.Output.{Writes};
 ghost use Rattle.sheet.specs.Sheet.{sheetOf};
+use crate::columns::test_lists;
 use crate::counting::count_lists;
 use crate::printing::put_sheet;
 use compiler::Compiled;
@@ -17,6 +19,7 @@ use events::listing::ragged_line;
 use events::parting::split;
 use events::printing::put_refused;
 use gatefields::fields::name_count;
+use heads::Columns;
 use heads::head_line;
 
 // Writes the sheet of an input of at most 65,536 bytes, with room for its plan, the events of one list and the numbers of every list.
@@ -33,18 +36,24 @@ fn put_input(
     let parted = split(input);
     let end = parted.table;
     let table = &input[..end];
-    let line = ragged_line(input, name_count(head_line(table)), true);
+    let line = ragged_line(input, name_count(head_line(table)), true, true);
     let compiled = compile(table, plan);
     match compiled {
         Compiled::Refused(r) => put_refused(out, number_of(r), place_of(r)),
         Compiled::Written { words, regions } => {
-            if 0 < line {
-                return put_refused(out, 23, line as u64);
+            let tested = test_lists(table, input);
+            match tested {
+                Columns::Wrong { field } => put_refused(out, 31, field as u64),
+                Columns::Right => {
+                    if 0 < line {
+                        return put_refused(out, 23, line as u64);
+                    }
+                    let counts = count_lists(input, end, &plan[..words], list, columns);
+                    let lists = counts.lists;
+                    let total = counts.total;
+                    put_sheet(out, table, regions, columns, lists, total)
+                }
             }
-            let counts = count_lists(input, end, &plan[..words], list, columns);
-            let lists = counts.lists;
-            let total = counts.total;
-            put_sheet(out, table, regions, columns, lists, total)
         }
     }
 }

@@ -1,5 +1,6 @@
--- Demand 3, whole: one theorem about a table, an order of its gate lines, a slice and a list of events together. Its claim stands in specs/Demand.
+-- Demand 3, whole: one theorem about a table, an order of its gate lines, a column line, a slice and a list of events. Its claim stands in specs/Demand.
 use mathlib.Core.Path.{_≡_, refl, sym, ap, _∙_}
+use mathlib.Core.Bool.{true}
 use mathlib.Core.Option.{Option, none, some}
 use mathlib.Core.List.{List, Memᴰ·append-left, List·Memᴰ·head as here}
 use Prim.Native.Nat.{ℕ, _%_}
@@ -19,6 +20,7 @@ use Rattle.tables.specs.Members.{member, unclaimed}
 use Rattle.tables.specs.Steps.{planWords}
 use Rattle.tables.specs.Refusals.{tableVerdict}
 use Rattle.tables.specs.Compile.{planOf, Compiling, compileOf}
+use Rattle.tables.specs.Columns.{isRight}
 use Rattle.tables.specs.TableCount.{lent, countTableOf}
 use Rattle.tables.specs.Demand.{dims, eventCount, countOfName, countOfParent, Demand3, KeepsDemand3}
 use Rattle.tables.proofs.ListLaws.{map-in}
@@ -28,12 +30,14 @@ use Rattle.tables.proofs.Acceptance.{accepted-passed}
 use Rattle.tables.proofs.OrderedAgain.{OrderedAgain, ordered-again}
 use Rattle.tables.proofs.CountLaws.{plan-width, counted, tally-taken, tally-spoilt, count-by-name, tally-unclaimed, inParentOf, quadrant-name, quadrants-add-up}
 use Rattle.tables.proofs.CompileLaws.{compiled-plan, gates-good, plan-passes}
+use Rattle.tables.proofs.ColumnTheorems.{right-in-any-order}
 use Rattle.tables.proofs.TableCountLaws.{complete-counted}
 
 -- ---- the steps, for one text, order, slice and list
 
 module _ (text : List ℕ) (accepted : tableVerdict 4096 text ≡ passed) (ks : List (List ℕ)) (order : LineOrder text ks)
-    (slice values : List ℤ) (room : length slice ≡ 4096) (complete : length values % dims text ≡ 0) where
+    (columns : List ℕ) (right : isRight text columns ≡ true) (slice values : List ℤ) (room : length slice ≡ 4096)
+    (complete : length values % dims text ≡ 0) where
   abbrev again : List ℕ
   again = reordered text ks
 
@@ -130,13 +134,16 @@ module _ (text : List ℕ) (accepted : tableVerdict 4096 text ≡ passed) (ks : 
     quadrants = quadrants-are;
   }
 
-  is-counted : countTableOf again slice values ≡ record { verdict = passed; words = into .words; regions = into .regions; tally = tally; slice = into .slice }
-  is-counted = complete-counted again slice values verdict-again (rw (both .same-n) complete)
+  is-counted : countTableOf again columns slice values
+      ≡ record { verdict = passed; words = into .words; regions = into .regions; tally = tally; slice = into .slice }
+  is-counted =
+      complete-counted again columns slice values verdict-again (right-in-any-order 4096 text accepted ks order columns ∙ right) (rw (both .same-n) complete)
 
-  kept : Demand3 text again values (countTableOf again slice values)
+  kept : Demand3 text again values (countTableOf again columns slice values)
   kept = rw is-counted whole
 
 -- ---- the theorem
 
-pub demand-3 : (again : List ℕ) (slice values : List ℤ) → KeepsDemand3 again slice values (countTableOf again slice values)
-demand-3 again slice values text accepted ks order e room complete = rw e (kept text accepted ks order slice values room complete)
+pub demand-3 : (again columns : List ℕ) (slice values : List ℤ) → KeepsDemand3 again columns slice values (countTableOf again columns slice values)
+demand-3 again columns slice values text accepted ks order e right room complete =
+    rw e (kept text accepted ks order columns right slice values room complete)

@@ -1,7 +1,7 @@
 -- The marked cases of 01, as one theorem over a list of them about the definitions: those of the worked example from its bytes, then those of shapes,
--- matrices and the plan by itself (counter, proofs/MarkedCases). Outlines, ellipses with decimals, ellipsoids and events that nobody gated, of 02's
--- requests, are further lists.
-use mathlib.Core.Path.{refl}
+-- matrices and the plan by itself (counter, proofs/MarkedCases). Outlines, ellipses with decimals, ellipsoids, events that nobody gated and column heads,
+-- of 02's requests, are further lists.
+use mathlib.Core.Path.{_≡_, refl}
 use mathlib.Core.Bool.{Bool, true, false, _&&_, cond}
 use mathlib.Core.List.{List, [], _∷_, _++_, map}
 use Prim.Native.Nat.{ℕ}
@@ -9,13 +9,17 @@ use lib.Dec.{eqb}
 use lib.IntN.{ℤ, pos}
 use lib.ListN.{replicate, take}
 use Rattle.integers.specs.Equality.{eqZ}
+use Rattle.plans.specs.Refusals.{passed, refused}
 use Rattle.counter.proofs.MarkedCases.{Case, is, Hold, hold-both, examplePlan, markedCases, marked-cases as shape-cases, outlineCases, outline-cases as position-cases, turnedPlan, decimalCases, decimal-cases as turned-cases}
 use Rattle.text.specs.Bytes.{bytes, same}
 use Rattle.text.specs.Lines.{unlines}
 use Rattle.tables.specs.Head.{gates}
 use Rattle.tables.specs.Members.{member, unclaimed}
 use Rattle.tables.specs.Outlines.{outlineMember}
-use Rattle.tables.specs.TableCount.{TableCounting, lent, countTableOf}
+use Rattle.tables.specs.Refusals.{tableVerdict}
+use Rattle.tables.specs.Columns.{columnsVerdict}
+use Rattle.tables.specs.TableCount.{TableCounting, lent, uncounted, countTableOf}
+use Rattle.tables.proofs.TableCountLaws.{columns-refused}
 use Rattle.plans.specs.Bits as Bits
 use Rattle.plans.specs.Form as Form
 use Rattle.plans.specs.Indices as Indices
@@ -44,6 +48,7 @@ use Rattle.gates.specs.Quads as Quads
 use Rattle.gates.specs.Refusal as Refusal
 use Rattle.gates.specs.Rules as Rules
 use Rattle.gates.specs.Tiling as Tiling
+use Rattle.tables.specs.Columns as Columns
 use Rattle.tables.specs.Compile as Compile
 use Rattle.tables.specs.Head as Head
 use Rattle.tables.specs.Members as Members
@@ -59,7 +64,7 @@ use Rattle.tables.specs.TableCount as TableCount
 abbrev tabbed : List ℕ → List ℕ
 tabbed s = map (λ c. cond (eqb c 32) 9 c) s
 
-example : List ℕ
+pub example : List ℕ
 example = unlines (
     tabbed (bytes "dims FSC SSC")
     ∷ tabbed (bytes "rect Live Ring FSC 300 600")
@@ -71,6 +76,10 @@ example = unlines (
 exampleEvents : List ℤ
 exampleEvents = pos 600 ∷ pos 200 ∷ pos 400 ∷ pos 375 ∷ pos 599 ∷ pos 200 ∷ pos 400 ∷ pos 376 ∷ pos 350 ∷ pos 200 ∷ pos 70000 ∷ pos 0 ∷ []
 
+-- the column line of its lists
+exampleColumns : List ℕ
+exampleColumns = tabbed (bytes "FSC SSC")
+
 -- ---- what the definitions say of it
 
 sameWords : List ℤ → List ℤ → Bool
@@ -81,7 +90,7 @@ sameWords (x ∷ a) (y ∷ b) = eqZ x y && sameWords a b
 
 -- by compiling it into a slice, and counting its events
 answer : TableCounting
-answer = countTableOf example (replicate 64 (pos 0)) exampleEvents
+answer = countTableOf example exampleColumns (replicate 64 (pos 0)) exampleEvents
 
 -- its members, by its own lines
 inGate : List ℕ → ℤ → ℤ → Bool
@@ -107,7 +116,7 @@ headAlone : List ℕ
 headAlone = unlines (tabbed (bytes "dims FSC SSC") ∷ [])
 
 headAnswer : TableCounting
-headAnswer = countTableOf headAlone (replicate 64 (pos 0)) exampleEvents
+headAnswer = countTableOf headAlone exampleColumns (replicate 64 (pos 0)) exampleEvents
 
 pub tableUnclaimedCases : List Case
 tableUnclaimedCases =
@@ -141,7 +150,8 @@ decimalExample : List ℕ
 decimalExample = unlines (tabbed (bytes "dims FSC SSC") ∷ tabbed (bytes "ellip Turned - FSC SSC 40 40 1134.5 -234.50 1134.500 2.0") ∷ [])
 
 decimalAnswer : TableCounting
-decimalAnswer = countTableOf decimalExample (replicate 64 (pos 0)) (pos 77 ∷ pos 3 ∷ pos 71 ∷ pos 70 ∷ pos 40 ∷ pos 40 ∷ pos 70 ∷ pos 70 ∷ [])
+decimalAnswer =
+    countTableOf decimalExample exampleColumns (replicate 64 (pos 0)) (pos 77 ∷ pos 3 ∷ pos 71 ∷ pos 70 ∷ pos 40 ∷ pos 40 ∷ pos 70 ∷ pos 70 ∷ [])
 
 inTurned : ℤ → ℤ → Bool
 inTurned x y = member (gates decimalExample) (x ∷ y ∷ []) (bytes "Turned")
@@ -167,7 +177,7 @@ ellipsoidExample = unlines (tabbed (bytes "dims FSC SSC RED") ∷ tabbed (bytes 
 
 ellipsoidAnswer : TableCounting
 ellipsoidAnswer =
-    countTableOf ellipsoidExample (replicate 64 (pos 0))
+    countTableOf ellipsoidExample (tabbed (bytes "FSC SSC RED")) (replicate 64 (pos 0))
     (pos 107 ∷ pos 202 ∷ pos 301 ∷ pos 106 ∷ pos 202 ∷ pos 301 ∷ pos 107 ∷ pos 202 ∷ pos 300 ∷ pos 93 ∷ pos 198 ∷ pos 299 ∷ [])
 
 inTilted : ℤ → ℤ → ℤ → Bool
@@ -189,9 +199,10 @@ tableEllipsoidCases =
     ∷ []
 
 table-cases : Hold tableCases × Hold tableOutlineCases × Hold tableDecimalCases × Hold tableEllipsoidCases × Hold tableUnclaimedCases
+    × (tableVerdict 64 example ≡ passed)
 unfolding tableCases tableOutlineCases tableDecimalCases tableEllipsoidCases ellipsoidExample ellipsoidAnswer inTilted onTilted
-    tableUnclaimedCases inNoGate headAlone headAnswer Judging.unclaimed Counting.unclaimedAt Members.claimed Members.unclaimed
-    sameWords answer inGate onGate example exampleEvents decimalExample decimalAnswer inTurned onTurned
+    Columns.isRight tableUnclaimedCases inNoGate headAlone headAnswer Judging.unclaimed Counting.unclaimedAt Members.claimed Members.unclaimed
+    sameWords exampleColumns answer inGate onGate example exampleEvents decimalExample decimalAnswer inTurned onTurned
     Decimals.beforePoint Decimals.afterPoint Decimals.unsignedThousandths Decimals.thousandths Decimals.isWhole Decimals.isOneToThree Decimals.isMinusZero
     Decimals.isDecimal Kinds.thousandthsOf Rules.decimalRefusal Encoding.decimalWord Meaning.inDecimalEllip LineOutlines.onDecimalEllip
     DecimalEllipse.inDecimalEllipse DecimalEllipse.decimalEllipsePosition Placing.decimalEllipseIn
@@ -225,6 +236,7 @@ table-cases = (
   (refl, (refl, (refl, (refl, (refl, (refl, (refl, (refl, tt)))))))),
   (refl, (refl, (refl, (refl, (refl, (refl, (refl, (refl, tt)))))))),
   (refl, (refl, (refl, (refl, (refl, (refl, tt)))))),
+  refl,
 )
 
 pub marked-cases : Hold (tableCases ++ markedCases)
@@ -241,3 +253,16 @@ ellipsoid-cases = table-cases .3
 
 pub unclaimed-cases : Hold tableUnclaimedCases
 unclaimed-cases = table-cases .4
+
+-- column lines by 01's worked example: its own; then the other order, a name less, a name more, a tab or a CR at the end, and nothing
+pub column-lines :
+    map (λ s. columnsVerdict example (bytes s ∷ [])) ("FSC\tSSC" ∷ "SSC\tFSC" ∷ "FSC" ∷ "FSC\tSSC\tX" ∷ "FSC\tSSC\t" ∷ "FSC\tSSC\r" ∷ "" ∷ [])
+    ≡ passed ∷ refused 31 0 ∷ refused 31 1 ∷ refused 31 2 ∷ refused 31 2 ∷ refused 31 1 ∷ refused 31 0 ∷ []
+unfolding example Bytes.same Lines.fields Lines.lines Head.headFields Head.dimensions Columns.isRight
+column-lines = refl
+
+-- of a list with a wrong one nothing is counted or written
+pub columns-counted : (values : List ℤ) → countTableOf example (bytes "SSC\tFSC") (replicate 64 (pos 0)) values
+    ≡ uncounted (replicate 64 (pos 0)) (refused 31 0)
+unfolding example Bytes.same Lines.fields Lines.lines Head.headFields Head.dimensions Columns.isRight
+columns-counted values = columns-refused example (bytes "SSC\tFSC") (replicate 64 (pos 0)) values (table-cases .5) refl

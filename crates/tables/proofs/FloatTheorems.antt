@@ -26,6 +26,7 @@ use Rattle.tables.specs.Head.{dimensions, gates, LineOrder, reordered}
 use Rattle.tables.specs.Steps.{shapeKind, stepWords, stepsWords, order, planWords}
 use Rattle.tables.specs.Refusals.{tableVerdict}
 use Rattle.tables.specs.Compile.{planOf, Compiling, compileOf}
+use Rattle.tables.specs.Columns.{isRight}
 use Rattle.tables.specs.TableCount.{TableCounting, lent, countTableOf}
 use Rattle.tables.specs.Floats.{KnownTo, RefusedAsNew, FirstFloatRefuses}
 use Rattle.tables.specs.Demand.{dims, Demand3For, Demand3}
@@ -232,12 +233,12 @@ for-float f less text again values c d ok = record {
   quadrants = d .quadrants;
 }
 
-pub demand-3-for : (f : Float) → KnowsLess f → (again : List ℕ) (slice values : List ℤ) (text : List ℕ) → KnownTo f text
-    → tableVerdict 4096 text ≡ passed → (ks : List (List ℕ)) → LineOrder text ks → again ≡ reordered text ks
-    → length slice ≡ 4096 → length values % dims text ≡ 0 → Demand3For f text again values (countTableOf again slice values)
-demand-3-for f less again slice values text known accepted ks order e room complete =
-    let c = countTableOf again slice values in
-    let d = demand-3 again slice values text accepted ks order e room complete in
+pub demand-3-for : (f : Float) → KnowsLess f → (again columns : List ℕ) (slice values : List ℤ) (text : List ℕ) → KnownTo f text
+    → tableVerdict 4096 text ≡ passed → (ks : List (List ℕ)) → LineOrder text ks → again ≡ reordered text ks → isRight text columns ≡ true
+    → length slice ≡ 4096 → length values % dims text ≡ 0 → Demand3For f text again values (countTableOf again columns slice values)
+demand-3-for f less again columns slice values text known accepted ks order e right room complete =
+    let c = countTableOf again columns slice values in
+    let d = demand-3 again columns slice values text accepted ks order e right room complete in
     let both = ordered-again text accepted ks order in
     let known-again : KnownTo f again = λ r m. known r (moved-region (Permᴰ·symm (both .moved)) (rw e at m)) in
     for-float f less text again values c d (rw (d .its-plan) (old-table-counted f less 4096 again (d .compiles) known-again .0))

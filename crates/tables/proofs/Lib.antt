@@ -1,4 +1,4 @@
--- The laws of tables, demand 3, and judging by a table's plan.
+-- The laws of tables, column lines, demand 3, and judging by a table's plan.
 pub mod ListLaws
 pub mod NameLaws
 pub mod ReachingLaws
@@ -17,6 +17,8 @@ pub mod ReorderLaws
 pub mod MemberTheorems
 pub mod CountLaws
 pub mod CompileLaws
+pub mod ColumnLaws
+pub mod ColumnTheorems
 pub mod TableCountLaws
 pub mod LoopLaws
 pub mod OrderedAgain

@@ -1,5 +1,6 @@
 -- Demand 3, whole: what is claimed of a table, an order of its gate lines, a list of events, and what compiling and counting gave.
 use mathlib.Core.Path.{_≡_}
+use mathlib.Core.Bool.{true}
 use mathlib.Core.Option.{Option, none, some}
 use mathlib.Core.List.{List}
 use Prim.Native.Nat.{ℕ, _/_, _%_, _<_}
@@ -16,6 +17,7 @@ use Rattle.tables.specs.Head.{dimensions, gates, LineOrder, reordered}
 use Rattle.tables.specs.Members.{member, unclaimed}
 use Rattle.tables.specs.Refusals.{tableVerdict}
 use Rattle.tables.specs.Compile.{planOf}
+use Rattle.tables.specs.Columns.{isRight}
 use Rattle.tables.specs.TableCount.{TableCounting, lent}
 
 -- the number of dimensions, and of events listed
@@ -63,8 +65,8 @@ pub record Demand3For (f : Float) (text again : List ℕ) (values : List ℤ) (c
 abbrev pub Demand3 : List ℕ → List ℕ → List ℤ → TableCounting → Type 0
 Demand3 = Demand3For today
 
--- the claim, of every accepted table of which again is an order, every slice of 4,096 words and every list of complete events
-abbrev pub KeepsDemand3 : List ℕ → List ℤ → List ℤ → TableCounting → Type 0
-KeepsDemand3 again slice values c =
+-- the claim, of every accepted table of which again is an order, the right column line, every slice of 4,096 words and every list of complete events
+abbrev pub KeepsDemand3 : List ℕ → List ℕ → List ℤ → List ℤ → TableCounting → Type 0
+KeepsDemand3 again columns slice values c =
     (text : List ℕ) → tableVerdict 4096 text ≡ passed → (ks : List (List ℕ)) → LineOrder text ks → again ≡ reordered text ks
-    → length slice ≡ 4096 → length values % dims text ≡ 0 → Demand3 text again values c
+    → isRight text columns ≡ true → length slice ≡ 4096 → length values % dims text ≡ 0 → Demand3 text again values c

@@ -1,6 +1,6 @@
--- Counting by a table: compiling it into a lent slice, then checking and counting by exactly the words reported.
+-- Counting by a table: compiling it into a lent slice, then checking and counting by exactly the words reported. A list comes with a column line.
 use mathlib.Core.Bool.{cond}
-use mathlib.Core.List.{List}
+use mathlib.Core.List.{List, [], _∷_}
 use Prim.Native.Nat.{ℕ}
 use lib.IntN.{ℤ}
 use lib.ListN.{take}
@@ -8,6 +8,7 @@ use lib.Dec.{eqb}
 use Rattle.plans.specs.Refusals.{Verdict}
 use Rattle.counter.specs.declared.Tally.{Tally}
 use Rattle.counter.specs.Counting.{noTally, Counting, countOf}
+use Rattle.tables.specs.Columns.{columnsVerdict}
 use Rattle.tables.specs.Compile.{Compiling, compileOf}
 
 -- number and place, the words and regions of the plan written, the tally, and the slice afterwards
@@ -33,8 +34,11 @@ countedBy slice c k =
     (record { verdict = k .verdict; words = c .words; regions = c .regions; tally = k .tally; slice = c .slice })
     (uncounted slice (k .verdict))
 
--- the table's refusals come before those of counting
-unfoldable pub countTableOf : List ℕ → List ℤ → List ℤ → TableCounting
-countTableOf text slice values =
+-- the table's refusals come first, then that of the column line, then those of counting
+unfoldable pub countTableOf : List ℕ → List ℕ → List ℤ → List ℤ → TableCounting
+countTableOf text columns slice values =
     let c = compileOf text slice in
-    cond (eqb (c .verdict .number) 0) (countedBy slice c (countOf (lent (c .words) (c .slice)) values)) (uncounted slice (c .verdict))
+    let v = columnsVerdict text (columns ∷ []) in
+    cond (eqb (c .verdict .number) 0)
+    (cond (eqb (v .number) 0) (countedBy slice c (countOf (lent (c .words) (c .slice)) values)) (uncounted slice v))
+    (uncounted slice (c .verdict))

@@ -1,5 +1,6 @@
--- `put_report`: the input parted, its events read, its table compiled and counted by, and what that prints.
+-- `put_report`: the input parted, its column line found, its events read, its table compiled and counted by, and what that prints.
 use mathlib.Core.Path.{sym}
+use mathlib.Core.List.{[], _∷_}
 use native.Mathlib.Omega.{arith}
 use lib.ListN.{take}
 use lib.Seq.{length-take-le}
@@ -18,7 +19,8 @@ slice-reshare-prefix-put-counted : tie.Need-slice-reshare-prefix-put-counted
 slice-reshare-prefix-put-counted c =
     let told = c .before .before .before in
     let read = told .before .before .before in
-    let entry = read .before .before .before .before .before .before .before .before in
+    let parts = read .before .before .before .before .before .before in
+    let entry = parts .before .before .before in
     let r = read .read-events in
     let args = entry .args in
     let pre = entry .pre in
@@ -29,7 +31,8 @@ slice-aggregate-put-counted : tie.Need-slice-aggregate-put-counted
 slice-aggregate-put-counted c =
     let told = c .before .before .before .before in
     let read = told .before .before .before in
-    let entry = read .before .before .before .before .before .before .before .before in
+    let parts = read .before .before .before .before .before .before in
+    let entry = parts .before .before .before in
     let r = read .read-events in
     let args = entry .args in
     let pre = entry .pre in
@@ -43,15 +46,18 @@ returns c =
     let read = told .before .before .before in
     let names = read .before .before in
     let head = names .before in
-    let parts = head .before .before in
+    let column = head .before in
+    let parts = column .before .before in
     let entry = parts .before .before .before in
     let i = entry .args .input .now in
     let b = take (parts .split .result .table) i in
     let n = dims-read b (head .head-line .ensures) (names .name-count .ensures) in
     let t = table-is i (parts .split .result) (parts .split .ensures .0) in
     let r = read .read-events in
-    let v = values-listed _ i (entry .pre .0) (entry .args .list .now) _ (entry .pre .2) _ (r .ensures .0) (r .ensures .1) _ (told .answer .given .1) b in
-    rw (input-printed i b (names .name-count .result) _ (entry .pre .0) t n v) at (put .put-counted .ensures)
+    let v =
+    values-listed _ i (entry .pre .0) (entry .args .list .now) _ (entry .pre .2) _ (r .ensures .0) (r .ensures .1) _ (told .answer .given .1)
+    b (_ ∷ []) in
+    rw (input-printed i b _ (names .name-count .result) _ (entry .pre .0) t (column .column-line .ensures) n v) at (put .put-counted .ensures)
 
 returns-2 : tie.Need-returns-2
 returns-2 c =
@@ -60,20 +66,24 @@ returns-2 c =
     let read = told .before .before .before in
     let names = read .before .before in
     let head = names .before in
-    let parts = head .before .before in
+    let column = head .before in
+    let parts = column .before .before in
     let entry = parts .before .before .before in
     let i = entry .args .input .now in
     let b = take (parts .split .result .table) i in
     let n = dims-read b (head .head-line .ensures) (names .name-count .ensures) in
     let t = table-is i (parts .split .result) (parts .split .ensures .0) in
     let r = read .read-events in
-    let v = line-ragged _ i (entry .pre .0) (entry .args .list .now) _ (entry .pre .2) _ (r .ensures .0) (r .ensures .1) _ (told .answer2 .given .1) b in
-    rw (input-printed i b (names .name-count .result) _ (entry .pre .0) t n v) at (put .put-ragged .ensures)
+    let v =
+    line-ragged _ i (entry .pre .0) (entry .args .list .now) _ (entry .pre .2) _ (r .ensures .0) (r .ensures .1) _ (told .answer2 .given .1)
+    b (_ ∷ []) in
+    rw (input-printed i b _ (names .name-count .result) _ (entry .pre .0) t (column .column-line .ensures) n v) at (put .put-ragged .ensures)
 
 returns-3 : tie.Need-returns-3
 returns-3 c =
     let read = c .before .before .before in
-    let entry = read .before .before .before .before .before .before .before .before in
+    let parts = read .before .before .before .before .before .before in
+    let entry = parts .before .before .before in
     let r = read .read-events in
     let args = entry .args in
     absurd (never-short _ (args .input .now) (entry .pre .0) (args .list .now) _ (entry .pre .2) _ (r .ensures .0) (r .ensures .1) (c .enum-told .given .1))
@@ -84,6 +94,7 @@ put-report-spec =
     (tie.spec
     (λ c κs. search needs)
     slice-aggregate-table
+    (λ c κs. search needs)
     (λ c κs. search needs)
     (λ c κs. search needs)
     (λ c κs. search needs)

@@ -12,8 +12,7 @@ use Rattle.counter.specs.declared.Tally.{Tally}
 use Rattle.counter.specs.Counting.{countOf}
 use Rattle.tallies.specs.Sums.{total}
 use Rattle.tallies.specs.Inner.Bounds.{Within}
-use Rattle.events.specs.Parting.{tableEnd}
-use Rattle.events.specs.Listing.{isEvent, isListLine, raggedLine, lineValues, listLines}
+use Rattle.events.specs.Listing.{isEvent, raggedLine, lineValues, listLines}
 use Rattle.sheet.specs.Inner.Columns.{numbersOf}
 use Rattle.sheet.specs.declared.counting.Counts.{Counts}
 
@@ -23,7 +22,7 @@ SomeEvents part = (n : ℕ) × (every (isEvent n) (lines part) ≡ true)
 
 -- no line behind the table is bad
 abbrev pub SomeLists : List ℕ → Type 0
-SomeLists input = (n : ℕ) × (raggedLine (isListLine n) input ≡ 0)
+SomeLists input = (n : ℕ) × (raggedLine true true n input ≡ 0)
 
 -- the tallies of lists by a plan
 unfoldable pub talliesOf : List ℤ → List (List (List ℕ)) → List Tally

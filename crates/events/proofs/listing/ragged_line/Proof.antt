@@ -10,10 +10,10 @@ use Rattle.events.proofs.listing.ragged_line.Statement.{statement}
 use Rattle.events.proofs.listing.ragged_line.Tie as tie
 
 returns : tie.Need-returns
-returns c = line-none _ _ (c .before .split .ensures .0) (not-true _ (c .if1 .taken))
+returns c = line-none _ _ _ _ (c .before .split .ensures .0) (not-true _ (c .if1 .taken))
 
 returns-2 : tie.Need-returns-2
-returns-2 c = line-open _ _ (c .before .before .split .ensures .0) (not-false _ (c .before .if1 .left)) (not-true _ (c .if2 .taken))
+returns-2 c = line-open _ _ _ _ (c .before .before .split .ensures .0) (not-false _ (c .before .if1 .left)) (not-true _ (c .if2 .taken))
 
 add-result : tie.Need-add-result
 add-result c =
@@ -34,14 +34,14 @@ returns-3 : tie.Need-returns-3
 returns-3 c =
     let rest = c .before .before in
     let f = rest .before in
-    line-behind _ _ (f .before .before .split .ensures .0) (not-false _ (f .before .if1 .left)) (not-false _ (f .if2 .left))
+    line-behind _ _ _ _ (f .before .before .split .ensures .0) (not-false _ (f .before .if1 .left)) (not-false _ (f .if2 .left))
     (rest .rest-from .ensures) (c .before .bad-line .ensures .0) (c .if3 .taken)
 
 returns-4 : tie.Need-returns-4
 returns-4 c =
     let rest = c .before .before in
     let f = rest .before in
-    line-nowhere _ _ (f .before .before .split .ensures .0) (not-false _ (f .before .if1 .left)) (not-false _ (f .if2 .left))
+    line-nowhere _ _ _ _ (f .before .before .split .ensures .0) (not-false _ (f .before .if1 .left)) (not-false _ (f .if2 .left))
     (rest .rest-from .ensures) (c .before .bad-line .ensures .0) (c .if3 .left)
 
 pub ragged-line-spec : {M : Type 1} → statement M

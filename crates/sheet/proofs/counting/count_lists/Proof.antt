@@ -1,17 +1,18 @@
 -- `count_lists`: the lists before `at` are counted and their numbers written.
-use mathlib.Core.Path.{_≡_, refl, sym, _∙_, ap}
+use mathlib.Core.Path.{_≡_, sym, _∙_, ap}
 use mathlib.Core.List.{List}
 use Prim.Native.Nat.{ℕ, _+_, _-_, _*_, _<_}
 use native.Mathlib.Omega.{arith}
 use borrow.Author.Needs.{needs}
-use lib.ListN.{length, take, drop, length-drop}
+use lib.ListN.{length, drop, length-drop}
 use lib.Seq.{length-take-le}
+use Rattle.text.proofs.LinesLaws.{find-from}
 use Rattle.text.proofs.OutputLaws.{over-length}
 use Rattle.counter.specs.Counting.{countOf}
 use Rattle.events.specs.Parting.{tablePart, tableEnd}
 use Rattle.events.specs.Listing.{values}
 use Rattle.events.proofs.ListsLaws.{part-is-table}
-use Rattle.sheet.proofs.CountLaws.{Done, done-none, list-good, lists-room, done-more, all-counted}
+use Rattle.sheet.proofs.CountLaws.{Done, done-none, events-near, list-good, lists-room, done-more, all-counted}
 use Rattle.sheet.proofs.counting.count_lists.Statement.{statement}
 use Rattle.sheet.proofs.counting.count_lists.Tie as tie
 
@@ -29,10 +30,22 @@ loop-holds c =
     let good = e .pre .2 in
     ((good .0, rw (e .pre .1, c .no-tally .ensures) (done-none (good .0) (a .plan .now) (a .input .now) (a .columns .now) (e .pre .0) (good .1))), e .pre .3)
 
-add-rest-from : tie.Need-add-rest-from Inv-loop μ-loop
-add-rest-from c =
+add-find : tie.Need-add-find Inv-loop μ-loop
+add-find c =
     let e = c .before .before .before .before .before in
     let h : c .before .loop .at + 7 < 65600 = omega (arith, e .pre .0) in
+    search needs
+
+add-begin : tie.Need-add-begin Inv-loop μ-loop
+add-begin c =
+    let test = c .before in
+    let l = test .before in
+    let e = l .before .before .before .before in
+    let a = e .args in
+    let inv = l .loop .inv .0 in
+    let near = events-near (inv .0) (a .plan .now) (a .input .now) (a .columns .now) (e .pre .0)
+    (l .loop .at) (l .loop .lists) (inv .1) (test .loop-test .taken) in
+    let h : c .find .result + 1 < 65600 = omega (arith, near, c .find .ensures, e .pre .0) in
     search needs
 
 slice-aggregate-count-list : tie.Need-slice-aggregate-count-list Inv-loop μ-loop
@@ -44,19 +57,21 @@ count-list-requires : tie.Need-count-list-requires Inv-loop μ-loop
 count-list-requires c κs =
     let parted = c .before .before in
     let rest = parted .before in
-    let test = rest .before in
+    let found = rest .before in
+    let test = found .before in
     let l = test .before in
     let e = l .before .before .before .before in
     let a = e .args in
     let inv = l .loop .inv in
     let part = part-is-table (rest .rest-from .result .now) (parted .split .ensures .0) in
-    let is = part .0 ∙ ap tablePart (rest .rest-from .ensures) in (
+    let behind = rest .rest-from .ensures ∙ ap (λ (k : ℕ). drop (k + 1) (a .input .now)) (found .find .ensures) in
+    let is = part .0 ∙ ap tablePart behind in (
       omega (
         arith,
         length-take-le (parted .split .result .table) (rest .rest-from .result .now) (parted .split .ensures .1),
         parted .split .ensures .1,
         ap length (rest .rest-from .ensures),
-        length-drop (l .loop .at + 7) (a .input .now),
+        length-drop (found .find .result + 1) (a .input .now),
         e .pre .0,
       ),
       inv .1,
@@ -65,7 +80,7 @@ count-list-requires c κs =
 
 mul-put-numbers-from : tie.Need-mul-put-numbers-from Inv-loop μ-loop
 mul-put-numbers-from c =
-    let test = c .before .before .before .before .before .before .before in
+    let test = c .before .before .before .before .before .before .before .before in
     let l = test .before in
     let e = l .before .before .before .before in
     let a = e .args in
@@ -80,7 +95,7 @@ put-numbers-from-requires c κs = c .before .before .count-list .ensures .1
 
 add-lists : tie.Need-add-lists Inv-loop μ-loop
 add-lists c =
-    let test = c .before .before .before .before .before .before .before .before .before .before .before in
+    let test = c .before .before .before .before .before .before .before .before .before .before .before .before in
     let l = test .before in
     let e = l .before .before .before .before in
     let a = e .args in
@@ -94,26 +109,32 @@ add-at : tie.Need-add-at Inv-loop μ-loop
 add-at c =
     let parted = c .before .before .before .before .before .before .before .before .before in
     let rest = parted .before in
-    let l = rest .before .before in
+    let found = rest .before in
+    let test = found .before in
+    let l = test .before in
     let e = l .before .before .before .before in
     let a = e .args in
-    let h : 7 + parted .split .result .table < 65600 =
-    omega (arith, parted .split .ensures .1, ap length (rest .rest-from .ensures), length-drop (l .loop .at + 7) (a .input .now), e .pre .0) in
-    search needs
-
-add-at-2 : tie.Need-add-at-2 Inv-loop μ-loop
-add-at-2 c =
-    let parted = c .before .before .before .before .before .before .before .before .before in
-    let rest = parted .before in
-    let l = rest .before .before in
-    let e = l .before .before .before .before in
-    let a = e .args in
-    let h : l .loop .at + (7 + parted .split .result .table) < 200000 =
-    omega (arith, parted .split .ensures .1, ap length (rest .rest-from .ensures), length-drop (l .loop .at + 7) (a .input .now), e .pre .0) in
+    let inv = l .loop .inv .0 in
+    let near = events-near (inv .0) (a .plan .now) (a .input .now) (a .columns .now) (e .pre .0)
+    (l .loop .at) (l .loop .lists) (inv .1) (test .loop-test .taken) in
+    let h : found .find .result + 1 + parted .split .result .table < 200000 =
+    omega (
+      arith,
+      near,
+      found .find .ensures,
+      parted .split .ensures .1,
+      ap length (rest .rest-from .ensures),
+      length-drop (found .find .result + 1) (a .input .now),
+      e .pre .0,
+    ) in
     search needs
 
 loop-less : tie.Need-loop-less Inv-loop μ-loop
-loop-less c = omega arith
+loop-less c =
+    let found = c .before .before .before .before .before .before .before .before .before .before .before in
+    let l = found .before .before in
+    let a = l .before .before .before .before .args in
+    omega (arith, found .find .ensures, find-from (a .input .now) (l .loop .at + 7) 10)
 
 loop-again : tie.Need-loop-again Inv-loop μ-loop
 loop-again c =
@@ -121,19 +142,22 @@ loop-again c =
     let counted = put .before .before .before in
     let parted = counted .before .before .before in
     let rest = parted .before in
-    let test = rest .before in
+    let found = rest .before in
+    let test = found .before in
     let l = test .before in
     let e = l .before .before .before .before in
     let a = e .args in
     let inv = l .loop .inv .0 in
     let part = part-is-table (rest .rest-from .result .now) (parted .split .ensures .0) in
-    let is = part .0 ∙ ap tablePart (rest .rest-from .ensures) in
+    let behind = rest .rest-from .ensures ∙ ap (λ (k : ℕ). drop (k + 1) (a .input .now)) (found .find .ensures) in
+    let is = part .0 ∙ ap tablePart behind in
     let tally-is = counted .count-list .ensures .0 ∙ ap (λ (t : List ℕ). countOf (a .plan .now) (values t) .tally) is in
-    let end-is = part .1 ∙ ap tableEnd (rest .rest-from .ensures) in (
+    let begin-is = ap (λ (k : ℕ). k + 1) (found .find .ensures) in
+    let end-is = part .1 ∙ ap tableEnd behind in (
       (
         inv .0,
         done-more (inv .0) (a .plan .now) (a .input .now) (a .columns .now) (e .pre .0) (l .loop .at) (l .loop .lists) (inv .1) (test .loop-test .taken)
-            tally-is (counted .count-list .ensures .1) (c .sum .ensures) (put .put-numbers-from .ensures .1) end-is,
+            tally-is (counted .count-list .ensures .1) (c .sum .ensures) (put .put-numbers-from .ensures .1) begin-is end-is,
       ),
       counted .count-list .ensures .2,
     )
@@ -160,7 +184,9 @@ count-lists-spec =
     μ-loop
     (λ c κs. search needs)
     loop-holds
-    add-rest-from
+    add-find
+    (λ c κs. search needs)
+    add-begin
     (λ c κs. search needs)
     (λ c κs. search needs)
     slice-aggregate-count-list
@@ -170,7 +196,6 @@ count-lists-spec =
     (λ c κs. search needs)
     add-lists
     add-at
-    add-at-2
     loop-less
     loop-again
     same-length

@@ -1,0 +1,2 @@
+-- What testing a column line answers.
+pub mod Answers
