@@ -292,14 +292,15 @@ def sheet_adds_up(data, output):
     if not unclaimed_fit(table_gates, regions, taken, unclaimed):
         return False
     columns = [one + other for one, other in zip(taken, spoilt)]
-    held = [len(lines) for _, _, lines in lists]
+    held = [len(lines) for _, _, _, lines in lists]
     return columns == held + [sum(held)] and events == [sum(held)]
 
 
 def joined_lists(data):
-    """An input of `gatecount` with the events of all lists in one."""
+    """An input of `gatecount` with the events of all lists in one, below the column line of the first."""
     table, lists = gates.part_lists(data)
-    return table + b'events\n' * bool(lists) + b''.join([line for _, _, lines in lists for line in lines])
+    opening = [b'events\n' + columns for _, _, columns, _ in lists[:1]]
+    return table + b''.join(opening + [line for _, _, _, lines in lists for line in lines])
 
 
 def printed_sums(output):

@@ -549,13 +549,18 @@ def given(lines):
     return ('\n'.join(lines).replace(' ', '\t') + '\n').encode()
 
 
+def opening(table):
+    """The lines before the events of a list: `events`, and the names of the table's head."""
+    return ['events', table[0].split(' ', 1)[1]]
+
+
 def printed(output):
     return output.decode().replace('\t', ' ').splitlines()
 
 
 def runs(table, events):
     """The inputs of one vector: the table with each event alone, or the table by itself where it is refused."""
-    return [given(table)] if isinstance(events, str) else [given(table + ['events', event]) for event, _ in events]
+    return [given(table)] if isinstance(events, str) else [given(table + opening(table) + [event]) for event, _ in events]
 
 
 def faults_seen(expect):
@@ -581,7 +586,7 @@ def unclaimed_told(expect, gatesheet):
         left = [sum(1 for _, holders in some if not holders) for some in (events, events[:2], events[2:])]
         for who, ask in asked:
             for lists, unclaimed in ((lines[:1], left[:1] * 2), (lines[1:], left[1:] + left[:1])):
-                found = printed(ask(given(table + [line for each in lists for line in ['events'] + each])))
+                found = printed(ask(given(table + [line for each in lists for line in opening(table) + each])))
                 expect('the unclaimed in %d lists by %s, %s' % (len(lists), who, heading), ' '.join(['unclaimed'] + [str(number) for number in unclaimed]),
                        found[-3] if len(found) > 3 else found)
 
@@ -636,7 +641,7 @@ def long_told(expect, command, plans):
                 some = ['%d %d' % tuple(event) for event, said in events if (said != gates.OUTSIDE) == held]
                 expect('%d events counted by %s, %s' % (len(some), who, heading),
                        ['%s %d' % (name, held * len(some)) for name, _ in outlines] + ['taken %d' % len(some), 'spoilt 0'],
-                       printed(counted(given(table + ['events'] + some))))
+                       printed(counted(given(table + opening(table) + some))))
             if not judged:
                 continue
             words = compare.compiled_words(judged([('compile', gates.PLAN_WORDS, given(table))])[0]) or []

@@ -3,8 +3,9 @@
 
     tools/draw.py [FILE] [-o FILE.svg] [--x NAME] [--y NAME] [--x-range LOW HIGH] [--y-range LOW HIGH] [--title TEXT]
 
-FILE is an input of gatecount, a table and perhaps the line `events` and events; without FILE it is
-read from standard input. The picture goes to standard output, or to the file after -o.
+FILE is an input of gatecount, a table and perhaps the line `events`, the column line and events; without FILE it is
+read from standard input. The picture goes to standard output, or to the file after -o. What gatecount refuses is not drawn:
+the refusal is told on standard error, as gatecount prints it, and of a wrong column line which names are asked for.
 
 Axes: two dimensions of the head, the first two unless --x and --y name others. Where the head has
 one dimension, the other axis is the event's number in the list.
@@ -62,6 +63,15 @@ class Refused(Exception):
 Input = collections.namedtuple('Input', 'head gates events members outlines spoilt counts')
 
 
+def test_columns(line, head):
+    """The column line of a list is the names of the head; one that is missing at the input's end is empty."""
+    fields = line.rstrip(b'\n').split(b'\t')
+    if fields != head:
+        same = [one == other for one, other in zip(fields, head)]
+        place = same.index(False) if False in same else len(same)
+        raise Refused('refused\t31\t%d (the line after `events` must be the names of the head: %s)' % (place, ' '.join(name.decode() for name in head)))
+
+
 def read_input(data):
     """The table and the events of an input of gatecount, whom each region holds and who is on its outline."""
     if len(data) > gates.INPUT_BYTES:
@@ -74,11 +84,16 @@ def read_input(data):
         raise Refused('refused\t23\t%d' % events_line)
     _, _, head, table_gates = gates.read_table(table)
     events = []
-    for offset, line in enumerate(lines, 1):
-        event = gates.event_values(line, len(head))
-        if event is None:
-            raise Refused('refused\t23\t%d' % (events_line + offset))
-        events.append(event)
+    if events_line is not None:
+        columns = b''.join(lines[:1])
+        test_columns(columns, head)
+        if not columns.endswith(b'\n'):
+            raise Refused('refused\t23\t%d' % (events_line + 1))
+        for number, line in enumerate(lines[1:], events_line + 2):
+            event = gates.event_values(line, len(head))
+            if event is None:
+                raise Refused('refused\t23\t%d' % number)
+            events.append(event)
     names_of, outlines_of = gates.membership(table), gates.outlines(table)
     members = [names_of(event) for event in events]
     outlines = [outlines_of(event) for event in events]

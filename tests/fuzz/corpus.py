@@ -2,7 +2,7 @@
 """The inputs of the fuzzer: where they begin, and what the reference says of those it found.
 
     tests/fuzz/corpus.py seeds TABLES PLANS
-        writes the seeds: the examples, the inputs of the documents, inputs of several lists, and their plans and questions
+        writes the seeds: the examples, the inputs of the documents, inputs of several lists and of wrong column lines, and their plans and questions
     tests/fuzz/corpus.py compare TABLES PLANS [--gatecount PATH] [--gatesheet PATH] [--plans PATH] [--keep FOLDER]
         each file of TABLES through gatecount and through gatesheet, and its table as a question `compile`; each file of
         PLANS as the questions `check`, `judge` and `count` (see tests/compare.py): all answers must be the reference's
@@ -31,11 +31,11 @@ ROOM = 4096         # words of the slice in a question `compile`
 LISTS = (0, 1, 2, 4, 8, 64, 256, 1024, 10000)
 
 # An ellipse with decimals whose rule passes 64 bits; events on its rim and beside it.
-DECIMAL = (b'dims\tA\tB\nellip\tE\t-\tA\tB\t0\t0\t1600800.1\t800200\t1300000\t2250\nevents\n'
+DECIMAL = (b'dims\tA\tB\nellip\tE\t-\tA\tB\t0\t0\t1600800.1\t800200\t1300000\t2250\nevents\nA\tB\n'
            b'60015\t30000\n60016\t30000\n60014\t30000\n0\t-45000\n0\t-45001\n65535\t-65536\n')
 
 # An ellipsoid whose rule passes 64 bits; events on its rim and beside it.
-ELLIPSOID = (b'dims\tA\tB\tC\nellip3\tE\t-\tA\tB\tC\t0\t0\t0\t4000000\t2000000\t-1400000\t3250000\t650000\t2510000\t900\nevents\n'
+ELLIPSOID = (b'dims\tA\tB\tC\nellip3\tE\t-\tA\tB\tC\t0\t0\t0\t4000000\t2000000\t-1400000\t3250000\t650000\t2510000\t900\nevents\nA\tB\tC\n'
              b'20000\t40000\t33000\n20000\t40000\t33001\n20000\t40000\t32999\n60000\t30000\t-21000\n60001\t30000\t-21000\n'
              b'-40000\t-5000\t1000\n0\t0\t-33000\n0\t0\t-33001\n65535\t-65536\t65535\n')
 
@@ -74,24 +74,49 @@ def store(folder, data):
         file.write(data)
 
 
+def opened(table):
+    """The two lines before the events of a list: `events` and the names of the head."""
+    return b'events\n' + table.split(b'\n')[0].split(b'\t', 1)[1] + b'\n'
+
+
 def sheets():
     """Inputs of no list, one, two, three and many; empty ones; bad lines in one or in two; ends without LF; events in one of 64 regions or in none."""
     yield CRUISE
-    yield NARROW + b'events\n' + CLAIMED + b'events\nevents\n63\n62\n'
-    yield b'dims\tA\nevents\n' + CLAIMED + b'events\n70000\n70001\nevents\n1\n'
+    head, one, cruise = b'dims\tA\n', opened(NARROW), opened(CRUISE)
+    yield NARROW + one + CLAIMED + one + one + b'63\n62\n'
+    yield head + one + CLAIMED + one + b'70000\n70001\n' + one + b'1\n'
     for lists in ([SOME], [b''], [SOME, OTHERS], [b'', b''], [OTHERS, SOME, OTHERS[:5]], [b'', SOME, b''], [SOME, b'', OTHERS], [SOME] * 40,
                   [OTHERS[:5] * (i % 7) + SOME[:4] * (i % 3) for i in range(300)],
                   [SOME, OTHERS + b'1\n' + SOME], [b'', SOME + b'1\t2\t3\n', b'x\n'], [SOME + b'1\t-0\n', OTHERS], [SOME, OTHERS, b'Events\n'],
                   [SOME, b'events \n'], [SOME, b'events\t\n'], [SOME, OTHERS + b'1\t2'], [SOME, b'\n']):
-        yield CRUISE + b''.join([b'events\n' + lines for lines in lists])
-    for text in (b'events', b'events\nevents', b'events\n' + SOME + b'events', b'events\n' + SOME + b'events\n' + OTHERS + b'events', b'events\r\n'):
+        yield CRUISE + b''.join([cruise + lines for lines in lists])
+    for text in (b'events', cruise + b'events', cruise + SOME + b'events', cruise + SOME + cruise + OTHERS + b'events', b'events\r\n'):
         yield CRUISE + text
     yield b'events\nevents\n'
     # As many lists as there can be, with no region and with 64, and one more; one after the other a list with one event.
-    for table, rest in ((b'dims\tA\n', b'events\n'), (BROAD, b'events\n'), (BROAD, b'events\n5\n'), (BROAD, b'events\nevents\n70000\n')):
+    for table, rest in ((head, one), (BROAD, one), (BROAD, one + b'5\n'), (BROAD, one + one + b'70000\n')):
         times = (gates.INPUT_BYTES - len(table)) // len(rest)
         yield table + rest * times
         yield table + rest * (times + 1)
+
+
+def column_lines():
+    """Wrong column lines of one list and of the last of three, above good events and bad ones; without LF; a dimension that is called `events`."""
+    good = opened(CRUISE)
+    for names in (b'B\tA', b'A\tC', b'A', b'B', b'A\tB\tC', b'A\tB\t', b'\tA\tB', b'A\tB\r', b'', b'events', b'1\t2', b'A B', b'a\tB', b'A\tBB', b'AA\tB'):
+        for text in (b'events\n' + names, b'events\n' + names + b'\n' + SOME, good + SOME + good + b'x\n' + b'events\n' + names + b'\n',
+                     b'events\n' + names + b'\nx\n' + good, good + SOME + b'events\n' + names):
+            yield CRUISE + text
+    for text in (b'events\n', good[:-1], good + good[:-1], good + b'events\n', good + SOME + good + OTHERS + b'events\n', b'events\n' + good, good + good[7:]):
+        yield CRUISE + text
+    for times in range(1, 7):
+        for text in (b'events\n' * times, b'events\n' * times + b'5\n', b'events\n' * times + b'A\n5\n', b'events\n' * (times - 1) + b'events'):
+            yield b'dims\tevents\n' + text
+            yield b'dims\tA\n' + text
+    # Refused before their column lines, and the most lists with the last one wrong.
+    yield b'dims\tA\tA\nevents\nA\n'
+    yield b'dims\tA\nrect\tR\tNone\tA\t0\t9\nevents\nB\n'
+    yield b'dims\tA\n' + b'events\nA\n' * 7280 + b'events\nB\n'
 
 
 def seeds(options):
@@ -108,13 +133,13 @@ def seeds(options):
                 plan = numbers[1:1 + numbers[0]]
                 plans.append((plan, numbers[2 + numbers[0]:]))
     # The longest input, and one byte more.
-    events = b'dims\tA\nevents\n' + b'5\n' * 32761
-    inputs += [events, events[:-1] + b'5\n', b'x' * 32767 + b'\n', DECIMAL, ELLIPSOID, *sheets()]
+    events = b'dims\tA\nevents\nA\n' + b'5\n' * 32760
+    inputs += [events, events[:-1] + b'5\n', b'x' * 32767 + b'\n', DECIMAL, ELLIPSOID, *sheets(), *column_lines()]
     for data in inputs:
         table, lines, _, _ = gates.part_input(data)
         number, _, words, _ = gates.compile_table(table, ROOM)
         if number == 0:
-            events = [gates.event_values(line, words[0]) for line in lines[:20]]
+            events = [gates.event_values(line, words[0]) for line in lines[1:21]]
             plans.append((words, [value for event in events if event for value in event if -2 ** 31 <= value < 2 ** 31]))
     for folder in (options.tables, options.plans_folder):
         os.makedirs(folder, exist_ok=True)

@@ -121,9 +121,21 @@ size_t LLVMFuzzerCustomMutator(uint8_t *data, size_t size, size_t most, unsigned
             other.end = other.at;
             size = put(data, size, most, other, kept, length);
             break;
-        case 7: /* a list begins before a line */
+        case 7: /* a list begins before a line, mostly with what stands behind the first field of line 1 as its column line */
+            memcpy(kept, "events\n", 7);
+            length = 7;
+            other.at = 0;
+            while (other.at < size && data[other.at] != '\t' && data[other.at] != '\n')
+                other.at++;
+            other.end = ++other.at;
+            while (other.end < size && data[other.end] != '\n')
+                other.end++;
+            if (next_of(&state) % 4 && other.end < size && other.end - other.at < 200) {
+                memcpy(kept + length, data + other.at, other.end + 1 - other.at);
+                length += other.end + 1 - other.at;
+            }
             line.end = line.at;
-            size = put(data, size, most, line, "events\n", 7);
+            size = put(data, size, most, line, kept, length);
             break;
         default: /* a copy of a line with a new name */
             memcpy(kept, data + line.at, line.end - line.at);

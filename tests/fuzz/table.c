@@ -329,6 +329,38 @@ static void compile_input(const uint8_t *data, size_t size, uint64_t seed)
     same_on_near_events(table.plan, table.words, seed);
 }
 
+/* The first field, from 0, at which the line from `at` to before `end` differs from the names of the head; -1 where none does. */
+static int wrong_field(const uint8_t *data, size_t at, size_t end)
+{
+    size_t head_end = line_end(data, table.size, 0), head = field_end(data, head_end, 0) + 1;
+    for (int field = 0;; field++) {
+        struct field one = {data + at, field_end(data, end, at) - at}, other = {data + head, field_end(data, head_end, head) - head};
+        if (!same_field(one, other))
+            return field;
+        at += one.length + 1;
+        head += other.length + 1;
+        if (at > end || head > head_end)
+            return at > end && head > head_end ? -1 : field + 1;
+    }
+}
+
+/* The place of 31, that of the first wrong column line, where each `events` may open a list or only the first; -1 where all are right. */
+static int wrong_columns(const uint8_t *data, size_t size, int several)
+{
+    int place = -1;
+    for (size_t at = table.size; at < size && place < 0;) {
+        size_t end = line_end(data, size, at);
+        int opens = opens_list(data, at, end) && (several || at == table.size);
+        at = end + 1;
+        if (opens && end < size) {
+            end = line_end(data, size, at);
+            place = wrong_field(data, at, end);
+            at = end + 1;
+        }
+    }
+    return place;
+}
+
 /* Puts together what `gatecount` must print. */
 static void want_counts(const uint8_t *data, size_t size)
 {
@@ -340,6 +372,16 @@ static void want_counts(const uint8_t *data, size_t size)
     }
     if (table.size < size) {
         size_t at = table.size + 7;
+        int place = wrong_columns(data, size, 0);
+        if (place >= 0) {
+            want_refused(31, (uint64_t)place);
+            return;
+        }
+        /* The column line, which is right, and its LF. */
+        if (at <= size) {
+            at = line_end(data, size, at) + 1;
+            line++;
+        }
         if (at > size) {
             want_refused(23, line);
             return;
@@ -394,20 +436,26 @@ static void want_sheet(const uint8_t *data, size_t size)
         want_refused(table.refusal, table.place);
         return;
     }
+    int place = wrong_columns(data, size, 1), columns = 0; /* whether the next line is a column line */
+    if (place >= 0) {
+        want_refused(31, (uint64_t)place);
+        return;
+    }
     lists = 0;
     for (size_t at = table.size; at < size;) {
         size_t end = line_end(data, size, at);
-        int opens = opens_list(data, at, end);
+        int opens = !columns && opens_list(data, at, end);
         line++;
         MUST(length + 8 <= VALUES);
-        if (end == size || (!opens && !event(data, at, end, table.plan[0], values + length))) {
+        if (end == size || (!opens && !columns && !event(data, at, end, table.plan[0], values + length))) {
             want_refused(23, line);
             return;
         }
         if (opens)
             starts[lists++] = length;
-        else
+        else if (!columns)
             length += (size_t)table.plan[0];
+        columns = opens;
         at = end + 1;
     }
     starts[lists] = length;

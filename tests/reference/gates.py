@@ -14,6 +14,7 @@ Names and table text are bytes throughout, since a table is bytes.
     outlined(table, event)            -> those of them on whose own outline the event is
     gatecount(data)                   -> the program's whole standard output
     gatesheet(data)                   -> and that of the program for several lists (02 e)
+    wrong_column(line, head)          -> the first differing field of a line of dimension names (02 g)
 
 A number of 0 (with place 0) says that nothing was refused.  `bits` and `outline` are sets
 of 64 bits, bit r for region r: the members, and those that are on the region's outline.
@@ -1009,20 +1010,56 @@ def part_input(data):
     return data, [], None, True
 
 
-def part_lists(data):
-    """(table, lists) where a line `events` stands before each list.
+# A list is the number of its line `events` in the whole input, whether that has its LF, the line directly
+# after it, which is always read as the column line (02 g), and the event lines.  Where the input ends
+# before the column line, b'' stands for it: no line is that.
 
-    A list is the number of that line in the whole input, whether it has its LF, and the
-    lines up to the next one.
-    """
+def part_list(data):
+    """(table, lists) for `gatecount`: one list at most, since the first `events` alone opens one."""
     table, lines, events_line, closed = part_input(data)
-    lists = [] if events_line is None else [(events_line, closed, [])]
+    return table, [] if events_line is None else [(events_line, closed, b''.join(lines[:1]), lines[1:])]
+
+
+def part_lists(data):
+    """(table, lists) for `gatesheet`: each `events` opens a list, unless it is read as a column line itself."""
+    table, lines, events_line, closed = part_input(data)
+    lists, opened = [], events_line is not None
+    if opened:
+        lists.append((events_line, closed, b'', []))
     for number, line in enumerate(lines, (events_line or 0) + 1):
-        if line in EVENTS:
-            lists.append((number, line[-1:] == b'\n', []))
+        if opened:
+            lists[-1] = (*lists[-1][:2], line, [])
+            opened = False
+        elif line in EVENTS:
+            lists.append((number, line[-1:] == b'\n', b'', []))
+            opened = True
         else:
-            lists[-1][2].append(line)
+            lists[-1][3].append(line)
     return table, lists
+
+
+def wrong_column(line, head):
+    """The first field, from 0, at which a column line differs from the names of the head, or None (02 g).
+
+    Lines of unequal length differ at the end of the shorter; a missing LF is no difference.
+    """
+    fields = line[:-1].split(b'\t') if line[-1:] == b'\n' else line.split(b'\t')
+    for place in range(max(len(fields), len(head))):
+        if fields[place:place + 1] != head[place:place + 1]:
+            return place
+    return None
+
+
+def wrong_columns(lists, head):
+    """The place of 31: that of the first wrong column line, or None.
+
+    An `events` without LF, which is 23, asks for no column line.
+    """
+    for _, closed, columns, _ in lists:
+        place = wrong_column(columns, head) if closed else None
+        if place is not None:
+            return place
+    return None
 
 
 def event_values(line, n):
@@ -1036,19 +1073,38 @@ def event_values(line, n):
 
 
 def read_lists(lists, n):
-    """(None, the values of each list), or the lowest bad line over all lists (23) and None."""
+    """(None, the values of each list), or the lowest bad line over all lists (23) and None.
+
+    Of the column line, which is right here, only the LF is looked at.
+    """
     values = []
-    for events_line, closed, lines in lists:
+    for events_line, closed, columns, lines in lists:
         if not closed:
             return events_line, None
+        if columns[-1:] != b'\n':
+            return events_line + 1, None
         values.append([])
-        for number, line in enumerate(lines, events_line + 1):
+        for number, line in enumerate(lines, events_line + 2):
             event = event_values(line, n)
             if event is None:
                 return number, None
             # A number beyond 32 bits stays what it is here and so spoils its event.
             values[-1] += event
     return None, values
+
+
+def read_input(table, lists):
+    """(0, 0, words, region names, values of each list), or the refusal: the table's own, then 31, then 23."""
+    number, place, words, names = compile_table(table, PLAN_WORDS)
+    if number:
+        return number, place, None, [], None
+    place = wrong_columns(lists, read_table(table)[2])
+    if place is not None:
+        return 31, place, None, [], None
+    place, values = read_lists(lists, words[0])
+    if place is not None:
+        return 23, place, None, [], None
+    return 0, 0, words, names, values
 
 
 def refused(number, place):
@@ -1063,16 +1119,12 @@ def gatecount(data):
     """The whole standard output for a standard input (01, "Marked and others")."""
     if len(data) > INPUT_BYTES:
         return refused(1, 0)
-    table, lines, events_line, closed = part_input(data)
-    number, place, words, names = compile_table(table, PLAN_WORDS)
+    table, lists = part_list(data)
+    number, place, words, names, values = read_input(table, lists)
     if number:
         return refused(number, place)
-    # One list only: a second `events` is a line of it.
-    place, lists = read_lists([] if events_line is None else [(events_line, closed, lines)], words[0])
-    if place is not None:
-        return refused(23, place)
     # The unclaimed are printed on the sheet only.
-    number, place, taken, spoilt, counts, _ = count(words, lists[0] if lists else [])
+    number, place, taken, spoilt, counts, _ = count(words, values[0] if values else [])
     if number:
         return refused(number, place)
     printed = [printed_line(name, counts[region]) for region, name in enumerate(names)]
@@ -1114,12 +1166,9 @@ def gatesheet(data):
     if len(data) > INPUT_BYTES:
         return refused(1, 0)
     table, lists = part_lists(data)
-    number, place, words, names = compile_table(table, PLAN_WORDS)
+    number, place, words, names, values = read_input(table, lists)
     if number:
         return refused(number, place)
-    place, values = read_lists(lists, words[0])
-    if place is not None:
-        return refused(23, place)
     tallies = [count(words, each)[2:] for each in values]
     events = sum(len(each) // words[0] for each in values)
     return b''.join(printed_line(*row) for row in sheet_rows(names, region_parents(table), tallies, events))

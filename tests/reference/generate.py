@@ -1115,6 +1115,10 @@ class Table:
     def bytes(self):
         return join([self.head()] + [line.bytes() for line in self.lines])
 
+    def columns(self):
+        """The right column line of its event lists."""
+        return b'\t'.join(self.dimensions)
+
     # Events for the table.
 
     def event(self):
@@ -1927,8 +1931,13 @@ class Case:
         self.list = list_
 
 
+def opened(table):
+    """The beginning of a list: the line `events` and the right column line."""
+    return join([b'events', table.columns()])
+
+
 def with_events(table, count):
-    return b'events\n' + join(event_lines(table.events(count)))
+    return opened(table) + join(event_lines(table.events(count)))
 
 
 def accepted(label, table, count, orders=False):
@@ -1999,7 +2008,7 @@ def case_decimal_line(rng, given=None):
 
 
 def case_point_elsewhere(rng, line):
-    return Case('point elsewhere', join([b'dims\tA\tB', line.encode().replace(b' ', b'\t')]) + b'events\n0\t0\n', (7,), place=2)
+    return Case('point elsewhere', join([b'dims\tA\tB', line.encode().replace(b' ', b'\t')]) + b'events\nA\tB\n0\t0\n', (7,), place=2)
 
 
 def case_decimal_event(rng):
@@ -2064,12 +2073,12 @@ def case_wide(rng):
 
 def case_far(rng):
     table = small_table(rng)
-    return Case('far numbers', table.bytes() + b'events\n' + far_list(table), (0,))
+    return Case('far numbers', table.bytes() + opened(table) + far_list(table), (0,))
 
 
 def case_bad_list(rng):
     table = small_table(rng)
-    return Case('bad list', table.bytes() + b'events\n' + bad_list(table))
+    return Case('bad list', table.bytes() + opened(table) + bad_list(table))
 
 
 def case_list_forms(rng, style=None):
@@ -2084,7 +2093,7 @@ def case_list_forms(rng, style=None):
     if style == 2:
         return Case('events open', data + b'events', (23,))
     if style == 3:
-        return Case('events twice', data + with_events(table, 2) + b'events\n', (23,))
+        return Case('events twice', data + with_events(table, 2) + rng.choice((b'events\n', opened(table))), (23,), place=len(table.lines) + 6)
     if style == 4:
         return Case('events changed', data + rng.choice((b'events\r\n', b'events\t\n', b' events\n',
                                                          b'Events\n', b'events \n', b'events\x00\n'))
@@ -2092,18 +2101,18 @@ def case_list_forms(rng, style=None):
     if style == 5:
         return Case('events alone', rng.choice((b'events', b'events\n', b'events\n1\n', b'events\n\n')), (2,))
     if style == 6:
-        return Case('no events', data + b'events\n', (0,))
+        return Case('no events', data + opened(table), (0,))
     if style == 7:
         return Case('list open', (data + with_events(table, 3))[:-1], (23,))
     if style == 8:
         return Case('empty line', data + with_events(table, rng.choice((0, 3))) + b'\n', (23,))
     if style == 9:
         return Case('tiny input', rng.choice((b'', b'\n', b'\n\n', b'x', b'\t', b'dims\tA', b'dims\tA\n',
-                                              b'dims\tA\n\n', b'dims\tA\nevents', b'dims\tA\nevents\n\n',
-                                              b'dims\tA\nevents\n1', b'dims\tA\nevents\nevents\n',
+                                              b'dims\tA\n\n', b'dims\tA\nevents', b'dims\tA\nevents\nA\n\n',
+                                              b'dims\tA\nevents\nA\n1', b'dims\tA\nevents\nA\nevents\n',
                                               b'\x00', b'dims\tA\r\n', b'dims\tA\n \n', b'dims\tevents\n'
-                                              b'events\n5\n', b'dims\n', b'events\nevents')))
-    return Case('table and list bad', rough_damage(rng, data) + b'events\n' + bad_list(table))
+                                              b'events\nevents\n5\n', b'dims\n', b'events\nevents')))
+    return Case('table and list bad', rough_damage(rng, data) + opened(table) + bad_list(table))
 
 
 def case_head(rng):
@@ -2199,7 +2208,7 @@ def case_long_number(rng, size=None):
     line = b'rect\t' + table.name() + b'\t-\t' + table.dimensions[0] + b'\t'
     digits = max(20, size - len(table.bytes()) - len(line) - 3)
     data = table.bytes() + line + b'9' * digits + b'\t*\n'
-    return Case('long number', data + b'events\n', (1,) if len(data) > 32768 else (8,))
+    return Case('long number', data + opened(table), (1,) if len(data) > 32768 else (8,))
 
 
 def case_input_size(rng, size=None):
@@ -2228,6 +2237,189 @@ def case_long_table_part(rng):
     return Case('long table and a list', data + with_events(table, 2), (1,))
 
 
+# ---------------------------------------------------------------- column lines
+
+# Names that differ by little, and `events`.
+ALIKE_NAMES = [b'A', b'a', b'B', b'AA', b'Aa', b'A1', b'A-', b'FSC', b'fsc', b'Fsc', b'FSC-A', b'FSC-H', b'FSC_H', b'SSC', b'events', b'event', b'Events',
+               b'dims', b'ABCDEFGHIJKLMNOP', b'ABCDEFGHIJKLMNOp', b'ABCDEFGHIJKLMNO']
+
+# The names of a head, a column line, and the place where it differs, None for a right one.
+COLUMN_LINES = (
+    ('A', 'A', None), ('A', 'a', 0), ('A', 'B', 0), ('A', '', 0), ('A', 'A\t', 1), ('A', '\tA', 0), ('A', 'A\r', 0), ('A', 'A ', 0), ('A', ' A', 0),
+    ('A', 'A\tA', 1), ('A', 'AA', 0), ('A', '0', 0), ('A', 'events', 0), ('A', 'dims\tA', 0), ('A', 'A\0', 0), ('A', 'A:single', 0), ('A', 'A\tB', 1),
+    ('A', '\t', 0), ('A', 'A' + '\t' * 256, 1), ('A', 'A\t' * 256 + 'A', 1), ('A', 'B\tA', 0), ('A', '*', 0), ('A', '-', 0), ('A', '!A', 0),
+    ('A\tB', 'A\tB', None), ('A\tB', 'A', 1), ('A\tB', 'B', 0), ('A\tB', 'B\tA', 0), ('A\tB', 'A\tA', 1), ('A\tB', 'B\tB', 0), ('A\tB', 'A\tB\t', 2),
+    ('A\tB', 'A\tB\tC', 2), ('A\tB', 'A\t\tB', 1), ('A\tB', 'A B', 0), ('A\tB', 'A\tb', 1), ('A\tB', 'a\tB', 0), ('A\tB', 'A\tB\r', 1),
+    ('A\tB', 'A\r\tB', 0), ('A\tB', 'A\tB\tA\tB', 2), ('A\tB', 'A\t', 1), ('A\tB', '\tB', 0), ('A\tB', '0\t0', 0), ('A\tB', 'A,B', 0), ('A\tB', '', 0),
+    ('A\tB', 'A\t0', 1), ('A\tB', '\tA\tB', 0), ('A\tB', 'A\t B', 1), ('A\tB', 'A\tB ', 1), ('A\tB', 'X\tB\tC', 0), ('A\tB', 'X', 0), ('A\tB', 'AB', 0),
+    ('A\tB\tC', 'A\tC\tB', 1), ('A\tB\tC', 'B\tC\tA', 0), ('A\tB\tC', 'C\tB\tA', 0), ('A\tB\tC', 'A\tB', 2), ('A\tB\tC', 'A\tC', 1), ('A\tB\tC', 'A', 1),
+    ('A\tB\tC', 'A\tB\tB', 2), ('A\tB\tC', 'A\tB\tC\tA', 3), ('A\tB\tC', 'A\tX\tY', 1), ('A\tB\tC', 'X\tB\tC\tD', 0), ('A\tB\tC', 'A\tX', 1),
+    ('A\tB\tC', 'A\tX\tC\tD', 1), ('A\tB\tC', 'A\tB\tX\t', 2), ('A\tB\tC', 'A\tB\tC', None),
+    ('events', 'events', None), ('events', 'Events', 0), ('events', 'events\tevents', 1), ('events', 'event', 0), ('events', '5', 0), ('events', 'events\r', 0),
+    ('events', 'A', 0), ('events\tA', 'events', 1), ('events\tA', 'events\tA', None), ('A\tevents', 'events\tA', 0), ('A\tevents', 'A\tevents', None),
+    ('A\tevents', 'A', 1), ('A\tevents', 'events', 0), ('dims', 'dims', None), ('dims\tA', 'dims\tA', None), ('dims\tA', 'A', 0), ('dims', 'dims\tdims', 1),
+    ('ABCDEFGHIJKLMNOP', 'ABCDEFGHIJKLMNOP', None), ('ABCDEFGHIJKLMNOP', 'ABCDEFGHIJKLMNOQ', 0), ('ABCDEFGHIJKLMNOP', 'ABCDEFGHIJKLMNO', 0),
+    ('ABCDEFGHIJKLMNO', 'ABCDEFGHIJKLMNOP', 0), ('ABCDEFGHIJKLMNOP', 'BBCDEFGHIJKLMNOP', 0), ('FSC-A\tFSC-H', 'FSC-A\tFSC_H', 1), ('FSC\tSSC', 'FSC\tSSC-H', 1),
+    ('FSC\tSSC', 'FS\tSSC', 0), ('FSC\tSSC', 'fsc\tssc', 0), ('a\tA', 'A\ta', 0), ('a\tA', 'a\ta', 1), ('a\tA', 'a\tA', None), ('a\tA', 'A\tA', 0),
+    ('A\tB\tC\tD\tE\tF\tG\tH', 'A\tB\tC\tD\tE\tF\tG\tH', None), ('A\tB\tC\tD\tE\tF\tG\tH', 'A\tB\tC\tD\tE\tF\tG\tX', 7),
+    ('A\tB\tC\tD\tE\tF\tG\tH', 'A\tB\tC\tD\tE\tF\tG', 7), ('A\tB\tC\tD\tE\tF\tG\tH', 'A\tB\tC\tD\tE\tF\tG\tH\tI', 8),
+    ('A\tB\tC\tD\tE\tF\tG\tH', 'A\tB\tC\tD\tE\tF\tH\tG', 6), ('A\tB\tC\tD\tE\tF\tG\tH', 'A\tB\tC\tX\tE\tY\tG\tH', 3))
+
+
+def column_table(rng):
+    """A small table, often with names that are alike, or with `events` as its only dimension."""
+    style = rng.random()
+    table = Table(rng, n=1 if style < 0.1 else rng.choice((1, 2, 2, 3, 3, 4, 8)))
+    if style < 0.1:
+        table.dimensions = [b'events']
+    elif style < 0.5:
+        table.dimensions = rng.sample(ALIKE_NAMES, table.n)
+    return table.fill(rng.choice((0, 1, 1, 2, 3))).mix()
+
+
+def other_order(rng, names):
+    """The same names in another order, where there is one."""
+    mixed = rng.sample(names, len(names))
+    return rng.choice((mixed, names[::-1], names[1:] + names[:1], names[1::-1] + names[2:], names[:-2] + names[-2:][::-1], sorted(names)))
+
+
+def one_changed(rng, names):
+    """One name changed by a byte or a few, or another in its place."""
+    at = rng.choice((0, len(names) - 1, rng.randrange(len(names))))
+    name = names[at]
+    other = rng.choice((name.swapcase(), name[:-1], name[1:], name + rng.choice((b'1', b'x', b'-', b'_', b'\r', b'\x00', b' ', b':single')),
+                        rng.choice((b' ', b'!', b'\x00', b'\xff', b'"', b'-')) + name, rng.choice(ALIKE_NAMES), b'nope', b'', b'*', b'0', b'"%s"' % name))
+    return names[:at] + [other] + names[at + 1:]
+
+
+def one_more(rng, names):
+    """A field more at the end, which may be empty, or one of the names twice."""
+    if rng.random() < 0.3:
+        at = rng.randrange(len(names))
+        return names[:at + 1] + names[at:]
+    return names + rng.choice(([b''], [b''], [b'', b''], [rng.choice(names)], [names[-1]], [b'X'], [b'0'], [b'events'], names, [b''] * 8, [b'\r']))
+
+
+def one_less(rng, names):
+    """The beginning of the names, or one of them left out."""
+    at = rng.randrange(len(names))
+    return names[:at] if rng.random() < 0.7 else names[:at] + names[at + 1:]
+
+
+# Column lines that are not right, unless the names happen to make them so: by the table.
+WRONG_LINES = (
+    lambda table: b'\t'.join(one_changed(table.rng, table.dimensions)), lambda table: b'\t'.join(other_order(table.rng, table.dimensions)),
+    lambda table: b'\t'.join(one_less(table.rng, table.dimensions)), lambda table: b'\t'.join(one_more(table.rng, table.dimensions)),
+    lambda table: table.columns() + b'\t', lambda table: table.columns() + b'\r', lambda table: b'', lambda table: event_lines([table.event()])[0],
+    lambda table: b'events', lambda table: table.columns().swapcase(), lambda table: b'\t' + table.columns(), lambda table: b' ' + table.columns(),
+    lambda table: table.columns() + b' ', lambda table: table.columns().replace(b'\t', b' '), lambda table: table.columns().replace(b'\t', b'\t\t'),
+    lambda table: table.columns().replace(b'\t', b','), lambda table: table.head(), lambda table: b'\t' * (table.n - 1),
+    lambda table: table.columns().lower(), lambda table: table.columns().replace(b'\t', b'\r\t') + b'\r')
+
+
+def wrong_line(table, style=None):
+    """A column line that isn't right."""
+    line = table.rng.choice(WRONG_LINES)(table) if style is None else WRONG_LINES[style](table)
+    while line == table.columns():
+        line = table.rng.choice(WRONG_LINES)(table)
+    return line
+
+
+def differing(line, table):
+    """The first field, from 0, at which a column line that isn't right differs."""
+    pairs = zip(line.split(b'\t'), table.dimensions)
+    return next((place for place, (field, name) in enumerate(pairs) if field != name), min(line.count(b'\t') + 1, table.n))
+
+
+def some_events(table):
+    return join(event_lines(table.events(table.rng.choice((0, 0, 1, 2, 4)))))
+
+
+def case_wrong_columns(rng, style=None):
+    """A wrong column line; good events, bad ones or none behind it, or not even its LF."""
+    table = column_table(rng)
+    line = wrong_line(table, style)
+    behind = rng.choice((b'\n' + some_events(table), b'\n' + some_events(table), b'\n' + bad_list(table), b'\n' + with_events(table, 1), b''))
+    return Case('wrong columns', table.bytes() + b'events\n' + line + behind, (31,), place=differing(line, table))
+
+
+def list_below(names, line, rng):
+    """A list with this column line, which has its LF, and a few events."""
+    event = b'\t'.join([rng.choice((b'0', b'5', b'70000')) for _ in names.split('\t')])
+    return join([b'events', line.encode()] + [event] * rng.randint(0, 2))
+
+
+def case_column_line(rng, given=None):
+    """One of the column lines worked out by hand."""
+    names, line, place = given or rng.choice(COLUMN_LINES)
+    head = ('dims\t%s\n' % names).encode()
+    return Case('column line', head + list_below(names, line, rng), (0 if place is None else 31,), place=place)
+
+
+def case_long_columns(rng, size=None):
+    """The right line and very much behind it, or a long field in it: over 65,536 bytes in all now and then."""
+    table = column_table(rng)
+    at, size = rng.randrange(table.n), size or rng.choice((256, 5000, 40000, 66000))
+    names, longer = table.dimensions, table.dimensions[at] * (1 + size // len(table.dimensions[at]))
+    fields = rng.choice((names + [b''] * size, names + [b'x' * size], names + names[:1] * (1 + size // len(names[0])), names[:at] + [longer] + names[at + 1:]))
+    line = b'\t'.join(fields)
+    data = table.bytes() + b'events\n' + line + b'\n' + some_events(table)
+    if len(data) > 65536:
+        return Case('too long column line', data, (1,), place=0)
+    return Case('long column line', data, (31,), place=differing(line, table))
+
+
+def case_columns(rng, style=None):
+    """Column lines that are missing, open or right with something else wrong behind them."""
+    table = column_table(rng)
+    data, place = table.bytes(), len(table.lines) + 3       # that of the column line
+    style = rng.randrange(7) if style is None else style
+    if style == 0:
+        return Case('columns missing', data + b'events\n', (31,), place=0)
+    if style == 1:
+        return Case('columns open', data + opened(table)[:-1], (23,), place=place)
+    if style == 2:
+        return Case('events open', data + b'events', (23,), place=place - 1)
+    if style == 3:
+        return Case('columns twice', data + opened(table) + table.columns() + b'\n' + some_events(table), (23,), place=place + 1)
+    data += with_events(table, rng.randint(0, 3))
+    place = data.count(b'\n') + 1
+    if style == 4:
+        behind = rng.choice((b'events', b'events\n', opened(table), opened(table)[:-1], b'events\n' + wrong_line(table) + b'\n'))
+        return Case('events twice', data + behind, (23,), place=place)
+    if style == 5:
+        return Case('bad line below columns', data + bad_line(rng, event_lines(table.events(1))[0], table.n) + b'\n' + some_events(table), (23,), place=place)
+    return accepted('right columns', table, rng.randint(0, 4))
+
+
+REFUSED_TABLES = (case_twin, case_dead, case_circle, case_crowded, case_head, lambda rng: case_plan_size(rng, 4097), lambda rng: case_table_size(rng, 32769))
+
+
+def case_table_and_columns(rng, given=None):
+    """A table that is refused, and a wrong column line behind it, which isn't told of."""
+    given = given or rng.choice((case_one_fault, case_many_faults, case_twin, case_dead, case_circle, case_crowded, case_head))(rng)
+    line = rng.choice((b'', b'events', b'nope', b'A', b'A\tB\tC\tD\tE\tF\tG\tH\tI'))
+    behind = rng.choice((b'', b'\n', b'\n0\n', b'\nx\n'))
+    return Case('table and columns bad', gates.part_input(given.data)[0] + b'events\n' + line + behind, given.refusals, place=given.place)
+
+
+def case_called_events(rng, style=None):
+    """`events` as the only dimension: the right column line is `events` too."""
+    table = Table(rng, n=1)
+    table.dimensions = [b'events']
+    data = table.fill(rng.choice((0, 1, 2))).mix().bytes()
+    style = rng.randrange(6) if style is None else style
+    if style < 2:
+        return accepted('columns called events', table, rng.randint(0, 3))
+    if style == 2:
+        return Case('columns called events, missing', data + b'events\n', (31,), place=0)
+    if style == 3:
+        return Case('columns called events, open', data + b'events\nevents', (23,), place=len(table.lines) + 3)
+    if style == 4:
+        return Case('columns called events, left out', data + b'events\n' + join(event_lines(table.events(rng.randint(1, 3)))), (31,), place=0)
+    return Case('events thrice', data + b'events\n' * rng.choice((3, 3, 4, 5)) + rng.choice((b'', b'5\n')), (23,), place=len(table.lines) + 4)
+
+
 FAMILIES = ((140, case_small), (90, case_referring), (110, case_outlines), (60, case_quadrants),
             (14, case_chain), (10, case_full), (6, case_wide), (50, case_far), (70, case_bad_list),
             (50, case_list_forms), (25, case_head), (8, case_open_table), (130, case_one_fault),
@@ -2235,7 +2427,9 @@ FAMILIES = ((140, case_small), (90, case_referring), (110, case_outlines), (60, 
             (10, case_crowded), (3, case_crowded_then_bad), (30, case_twin), (30, case_dead), (40, case_circle),
             (7, case_plan_size), (3, case_polygons), (4, case_table_size), (4, case_long_number),
             (5, case_input_size), (3, case_long_table_part), (40, case_many_events), (90, case_decimals), (15, case_decimal_line),
-            (5, case_decimal_event), (35, case_long_outlines), (90, case_ellipsoids), (10, case_ellip3_line), (15, case_bad_ellipsoid))
+            (5, case_decimal_event), (35, case_long_outlines), (90, case_ellipsoids), (10, case_ellip3_line), (15, case_bad_ellipsoid),
+            (120, case_wrong_columns), (60, case_columns), (25, case_table_and_columns), (15, case_called_events), (8, case_long_columns),
+            (15, case_column_line))
 
 # The limits of size and one of each refusal stand at the beginning of every run, so that
 # none is left to chance; so does each number of vertices.
@@ -2250,6 +2444,13 @@ FIRST = ([lambda rng, size=size: case_table_size(rng, size) for size in (32767, 
          + [lambda rng, line=line: case_point_elsewhere(rng, line) for line in POINTS_ELSEWHERE]
          + [lambda rng, given=given: case_ellip3_line(rng, given) for given in ELLIP3_LINES]
          + [lambda rng, sizes=sizes: case_long_outlines(rng, sizes) for sizes in long_outlines.TURNS]
+         + [lambda rng, given=given: case_column_line(rng, given) for given in COLUMN_LINES]
+         + [lambda rng, style=style: case_wrong_columns(rng, style) for style in range(len(WRONG_LINES))]
+         + [lambda rng, style=style: case_columns(rng, style) for style in range(7)]
+         + [lambda rng, style=style: case_called_events(rng, style) for style in range(1, 6)]
+         + [lambda rng, number=number: case_table_and_columns(rng, case_one_fault(rng, number)) for number in range(4, 13)]
+         + [lambda rng, maker=maker: case_table_and_columns(rng, maker(rng)) for maker in REFUSED_TABLES]
+         + [lambda rng, size=size: case_long_columns(rng, size) for size in (256, 256, 40000, 66000, 66000)]
          + [case_crowded, case_crowded_then_bad, case_full, case_twin, case_dead, case_circle,
             case_open_table, case_head, case_long_table_part, case_decimal_event])
 _WEIGHTS = [weight for weight, _ in FAMILIES]
@@ -2355,7 +2556,7 @@ def sheet_far(rng):
     """Numbers beyond 32 bits, and lists of spoilt events alone."""
     table = sheet_table(rng)
     lists = [rng.choice((far_list(table), far_list(table), b'', join([b'\t'.join([b'70000'] * table.n)] * 2))) for _ in range(rng.randint(1, 5))]
-    return Case('far numbers in lists', table.bytes() + b''.join([b'events\n' + each for each in lists]), (0,))
+    return Case('far numbers in lists', table.bytes() + b''.join([opened(table) + each for each in lists]), (0,))
 
 
 def bad_line(rng, line, n):
@@ -2377,10 +2578,10 @@ def bad_line(rng, line, n):
 def bad_lists(table):
     """Several lists with one to three bad lines, and the lowest of these, counted from 1 at the first line `events`."""
     rng = table.rng
-    lines = []
+    lines, places = [], []
     for count in [rng.choice((0, 1, 1, 2, 3, 5)) for _ in range(rng.choice((0, 1, 2, 2, 3, 5)))] + [rng.randint(1, 3)]:
-        lines += [b'events'] + event_lines(table.events(count))
-    places = [at for at, line in enumerate(lines) if line != b'events']
+        lines += [b'events', table.columns()] + event_lines(table.events(count))
+        places += range(len(lines) - count, len(lines))
     chosen = rng.sample(places, min(len(places), rng.choice((1, 1, 2, 2, 3))))
     for at in chosen:
         lines[at] = bad_line(rng, lines[at], table.n)
@@ -2415,16 +2616,16 @@ def sheet_broken(rng, style=None):
         data += one + b'\t' + other + b'\n'
     else:
         fields, cut = one.split(b'\t'), rng.randrange(1, table.n)
-        data += join([b'\t'.join(fields[:cut])] + [b'events'] * (style == 2) + [b'\t'.join(fields[cut:])])
+        data += join([b'\t'.join(fields[:cut])] + [b'events', table.columns()] * (style == 2) + [b'\t'.join(fields[cut:])])
     return Case('broken event', data + rng.choice((b'', with_events(table, 1))), (23,), place=place)
 
 
 def sheet_open(rng, style=None):
-    """The last line of several lists without LF: an event, or `events`."""
+    """The last line of several lists without LF: an event, `events` or the column line."""
     table = sheet_table(rng)
     data = table.bytes() + b''.join([with_events(table, rng.randint(0, 3)) for _ in range(rng.randint(0, 3))])
-    style = rng.randrange(3) if style is None else style
-    data += (b'events', with_events(table, 0) + b'events', with_events(table, rng.randint(1, 3))[:-1])[style]
+    style = rng.randrange(4) if style is None else style
+    data += (b'events', with_events(table, 0) + b'events', with_events(table, rng.randint(1, 3))[:-1], opened(table)[:-1])[style]
     return Case('lists open', data, (23,), place=data.count(b'\n') + 1)
 
 
@@ -2444,34 +2645,37 @@ def sheet_forms(rng, style=None, changed=None):
     if style == 2:
         return Case('events changed before the lists', data + changed + first + second, (4,), place=len(table.lines) + 2)
     if style == 3:
-        return Case('events changed behind a list', data + first + changed + second, (23,), place=len(table.lines) + 5)
+        return Case('events changed behind a list', data + first + changed + second, (23,), place=len(table.lines) + 6)
     if style == 4:
         return Case('no table', b''.join((b'events\n', first, second)[rng.randrange(3):]), (2,), place=0)
     if style == 5:
-        return Case('events one after the other', data + b'events\n' * rng.randint(1, 5) + rng.choice((b'', first)), (0,))
+        return Case('lists one after the other', data + opened(table) * rng.randint(1, 5) + rng.choice((b'', first)), (0,))
     if style == 6:
-        return Case('empty line behind a list', data + first + b'\n' + second, (23,), place=len(table.lines) + 5)
+        return Case('empty line behind a list', data + first + b'\n' + second, (23,), place=len(table.lines) + 6)
     if style == 7:
-        return Case('table behind a list', data + first + data + second, (23,), place=len(table.lines) + 5)
+        return Case('table behind a list', data + first + data + second, (23,), place=len(table.lines) + 6)
     return Case('tiny input with lists', rng.choice((
-        b'events\nevents', b'events\nevents\n', b'dims\tA\nevents\nevents', b'dims\tA\nevents\nevents\n', b'dims\tA\nevents\n1\nevents\n2',
-        b'dims\tA\nevents\n1\nevents\n\n', b'dims\tA\nevents\n\nevents\n', b'dims\tA\n\nevents\nevents\n', b'dims\tevents\nevents\nevents\n5\n',
-        b'dims\tA\nevents\nevents\revents\n', b'dims\tA\nevents\nevents\n1\t2\nevents\nx\n')))
+        b'events\nevents', b'events\nevents\n', b'dims\tA\nevents\nA\nevents', b'dims\tA\nevents\nA\nevents\nA\n',
+        b'dims\tA\nevents\nA\n1\nevents\nA\n2', b'dims\tA\nevents\nA\n1\nevents\nA\n\n', b'dims\tA\nevents\nA\n\nevents\nA\n',
+        b'dims\tA\n\nevents\nA\nevents\nA\n', b'dims\tevents\nevents\nevents\n5\n', b'dims\tA\nevents\nA\nevents\revents\n',
+        b'dims\tA\nevents\nA\nevents\nA\n1\t2\nevents\nA\nx\n', b'dims\tevents\nevents\nevents\nevents\nevents\n')))
 
 
 def sheet_of_case(rng, given=None):
     """An input of `gatecount` as it is, or with further lists behind it."""
     given = given or rng.choices(_MAKERS, _WEIGHTS)[0](rng)
-    data, refusals = given.data, given.refusals
-    if given.label == 'events twice':
-        refusals = (0,)
+    data, refusals, place = given.data, given.refusals, given.place
+    columns = data.split(b'\n')[0].partition(b'\t')[2]
+    # A second `events` opens a list here; and one that is put behind a last line `events` is its column line, which may be right or differ later.
+    if given.label in ('events twice', 'events thrice') or columns.split(b'\t')[0] == b'events':
+        refusals = place = None
     if data[-1:] == b'\n' and rng.random() < 0.8:
-        lines = [line for line in gates.part_input(data)[1] if line != b'events\n']
+        lines = [line for line in gates.part_input(data)[1][1:] if line != b'events\n']
         for _ in range(rng.choice((1, 1, 2, 3))):
-            data += b'events\n' + b''.join(rng.sample(lines, min(len(lines), rng.choice((0, 1, 3)))))
+            data += join([b'events', columns]) + b''.join(rng.sample(lines, min(len(lines), rng.choice((0, 1, 3)))))
         if len(data) > 65536:
             return Case(given.label + ' with lists', data, (1,), place=0)
-    return Case(given.label + ' with lists', data, refusals, place=given.place)
+    return Case(given.label + ' with lists', data, refusals, place=place)
 
 
 def sheet_table_first(rng, given=None):
@@ -2491,7 +2695,7 @@ def sheet_rough_lists(rng):
     """The same of the lists alone: a line `events` may be lost, doubled or spoilt."""
     table = small_table(rng)
     lists = b''.join([with_events(table, rng.randint(0, 3)) for _ in range(rng.randint(1, 4))])
-    return Case('rough lists', table.bytes() + b'events\n' + rough_damage(rng, lists))
+    return Case('rough lists', table.bytes() + opened(table) + rough_damage(rng, lists))
 
 
 def sheet_size(rng, size=None):
@@ -2501,7 +2705,7 @@ def sheet_size(rng, size=None):
     data = table.bytes() + with_events(table, 3) + with_events(table, 2)
     rest = b'\t0' * (table.n - 1) + b'\n'
     while size - len(data) > 9000:
-        data += rng.choice((b'', b'events\n')) + b'8' * rng.randint(2000, 8000) + rest
+        data += rng.choice((b'', opened(table))) + b'8' * rng.randint(2000, 8000) + rest
     data += b'7' * (size - len(data) - len(rest)) + rest
     return Case('lists of %d bytes' % size, data, (1 if size > 65536 else 0,))
 
@@ -2520,10 +2724,20 @@ def sheet_long_table_part(rng):
 
 
 def sheet_empty_lists(rng, lists=None):
-    """The shortest head and so many empty lists: 9,361 of them and one event are 65,536 bytes."""
+    """The shortest head and so many empty lists: 7,281 of them are 65,536 bytes.  The last one has an event, if there is room."""
     lists = lists or rng.choice((500, 1000, 4096))
-    data = b'dims\tA\n' + b'events\n' * lists + b'0\n'
+    data = b'dims\tA\n' + b'events\nA\n' * lists
+    data += b'0\n' * (len(data) <= 65534)
     return Case('%d lists' % lists, data, (1 if len(data) > 65536 else 0,))
+
+
+def sheet_last_columns(rng, lists=7281):
+    """As many lists as fit, and the last column line alone is wrong or open."""
+    line, number, place = rng.choice(((b'B\n', 31, 0), (b'a\n', 31, 0), (b'\n', 31, 0), (b'', 31, 0), (b'A\t', 31, 1), (b'A', 23, 2 * lists + 1)))
+    data = b'dims\tA\n' + b'events\nA\n' * (lists - 1) + b'events\n' + line
+    if len(data) > 65536:
+        number, place = 1, 0
+    return Case('last of %d lists' % lists, data, (number,), place=place)
 
 
 def sheet_widest(rng, size=65536):
@@ -2536,8 +2750,8 @@ def sheet_widest(rng, size=65536):
     while len(table.regions) < 64:
         table.combination(b'not', 1)
     data = table.mix().bytes()
-    while size - len(data) >= 9:
-        data += b'events\n' + rng.choice((b'', b'', b'%d\n' % rng.randint(0, 9)))
+    while size - len(data) >= 11:
+        data += opened(table) + rng.choice((b'', b'', b'%d\n' % rng.randint(0, 9)))
     return Case('64 regions, many lists', data, (0,))
 
 
@@ -2549,19 +2763,117 @@ def sheet_fullest(rng, lists=3):
     table.rect().fields[2] = table.regions[0]
     data = table.bytes()
     for left in range(lists, 0, -1):
-        count = (65536 - len(data) - 7 * left) // (2 * left)
-        data += b'events\n' + b''.join([b'%d\n' % rng.randint(0, 9) for _ in range(count)])
+        count = (65536 - len(data) - 9 * left) // (2 * left)
+        data += opened(table) + b''.join([b'%d\n' % rng.randint(0, 9) for _ in range(count)])
     return Case('most events', data, (0,))
+
+
+def wrong_list(table, style=None):
+    """A list with a wrong column line, and the place of that."""
+    line = wrong_line(table, style)
+    return b'events\n' + line + b'\n' + some_events(table), differing(line, table)
+
+
+def good_lists(table, least=0):
+    return [opened(table) + some_events(table) for _ in range(least + table.rng.choice((0, 0, 1, 1, 2, 4)))]
+
+
+def sheet_wrong_columns(rng, style=None):
+    """One column line wrong, or several, of which the first is told of; events may be bad before it and behind it."""
+    table = column_table(rng)
+    (first, place), behind = wrong_list(table, style), good_lists(table)
+    before = good_lists(table, least=rng.choice((0, 1)))
+    for lists, most in ((before, 0.5), (behind, 0.3)):
+        if lists and rng.random() < most:
+            lists[rng.randrange(len(lists))] += bad_line(rng, event_lines(table.events(1))[0], table.n) + b'\n'
+    for _ in range(rng.choice((0, 1, 1, 2))):
+        behind.insert(rng.randint(0, len(behind)), wrong_list(table)[0])
+    end = rng.choice((b'', b'', b'', b'events', b'events\n', opened(table)[:-1], b'events\nnope', b'x'))
+    return Case('wrong columns of a list', table.bytes() + b''.join(before + [first] + behind) + end, (31,), place=place)
+
+
+def sheet_column_line(rng, given=None):
+    """One of the column lines worked out by hand, in one of several lists."""
+    names, line, place = given or rng.choice(COLUMN_LINES)
+    head, lists = ('dims\t%s\n' % names).encode(), [list_below(names, names, rng) for _ in range(rng.randint(0, 3))]
+    lists.insert(rng.randint(0, len(lists)), list_below(names, line, rng))
+    return Case('column line of a list', head + b''.join(lists), (0 if place is None else 31,), place=place)
+
+
+def sheet_columns(rng, style=None):
+    """The last column line missing or open, or `events` open there; events may be bad before it."""
+    table = column_table(rng)
+    lists = good_lists(table)
+    bad = rng.random() < 0.3 and lists
+    if bad:
+        at = rng.randrange(len(lists))
+        lists[at] += bad_line(rng, event_lines(table.events(1))[0], table.n) + b'\n'
+    data = table.bytes() + b''.join(lists)
+    line = (table.bytes() + b''.join(lists[:at + 1]) if bad else data + b'\n').count(b'\n')
+    style = rng.randrange(5) if style is None else style
+    if style == 0:
+        return Case('columns of a list missing', data + b'events\n', (31,), place=0)
+    if style == 1:
+        return Case('columns of a list open', data + opened(table)[:-1], (23,), place=line if bad else line + 1)
+    if style == 2:
+        return Case('events of a list open', data + b'events', (23,), place=line)
+    wrong = wrong_line(table)
+    if style == 3:
+        return Case('wrong columns of a list open', data + b'events\n' + wrong, (31,), place=differing(wrong, table))
+    if table.columns() == b'events':
+        return Case('columns called events of a list, one more', data + opened(table) + b'events\n', (31,), place=0)
+    return Case('columns for an event', data + opened(table) + table.columns() + b'\n', (23,), place=line if bad else line + 2)
+
+
+def sheet_events_for_columns(rng):
+    """`events` in the place of a column line: it opens no list."""
+    table = column_table(rng)
+    while table.dimensions == [b'events']:
+        table = column_table(rng)
+    data = table.bytes() + b''.join(good_lists(table)) + b'events\n' * rng.randint(2, 5) + rng.choice((b'', table.columns() + b'\n' + some_events(table)))
+    return Case('events for columns', data, (31,), place=differing(b'events', table))
+
+
+def sheet_called_events(rng, style=None):
+    """`events` as the only dimension: every other line `events` is a column line."""
+    table = Table(rng, n=1)
+    table.dimensions = [b'events']
+    table.fill(rng.choice((0, 1, 2))).mix()
+    data = table.bytes() + b''.join(good_lists(table, least=1))
+    style = rng.randrange(4) if style is None else style
+    if style == 0:
+        return Case('columns of lists called events', data, (0,))
+    if style == 1:
+        return Case('columns of lists called events, missing', data + b'events\n', (31,), place=0)
+    if style == 2:
+        return Case('columns of lists called events, open', data + rng.choice((b'events\nevents', b'events')), (23,))
+    return Case('columns of lists called events, left out', data + b'events\n5\n' + rng.choice((b'', opened(table))), (31,), place=0)
+
+
+def sheet_table_and_columns(rng):
+    """A table that is refused, and lists with wrong column lines behind it, which aren't told of."""
+    given = case_table_and_columns(rng)
+    other = column_table(rng)
+    return Case('table and columns of lists bad', gates.part_input(given.data)[0] + b''.join(good_lists(other) + [wrong_list(other)[0]]),
+                given.refusals, place=given.place)
 
 
 SHEETS = ((140, sheet_few), (160, sheet_kin), (70, sheet_empty), (12, sheet_many_lists), (25, sheet_long_lists), (40, sheet_far), (110, sheet_bad_lines),
           (30, sheet_late_bad_line), (12, sheet_broken), (30, sheet_open), (60, sheet_forms), (150, sheet_of_case), (60, sheet_table_first), (30, sheet_rough),
-          (40, sheet_rough_lists), (5, sheet_size), (2, sheet_table_size), (2, sheet_long_table_part), (2, sheet_empty_lists), (90, sheet_claims))
+          (40, sheet_rough_lists), (5, sheet_size), (2, sheet_table_size), (2, sheet_long_table_part), (2, sheet_empty_lists), (90, sheet_claims),
+          (160, sheet_wrong_columns), (60, sheet_columns), (15, sheet_events_for_columns), (20, sheet_called_events), (25, sheet_table_and_columns),
+          (15, sheet_column_line), (1, sheet_last_columns))
 
 # The forms of lists, one of each refusal and the limits of size stand at the beginning.
 FIRST_SHEETS = ([lambda rng, style=style: sheet_forms(rng, style) for style in (*range(9), 8, 8, 8)]
                 + [lambda rng, style=style, changed=changed: sheet_forms(rng, style, changed) for style in (2, 3) for changed in CHANGED_EVENTS]
-                + [lambda rng, style=style: sheet_open(rng, style) for style in range(3)]
+                + [lambda rng, style=style: sheet_open(rng, style) for style in range(4)]
+                + [lambda rng, given=given: sheet_column_line(rng, given) for given in COLUMN_LINES]
+                + [lambda rng, style=style: sheet_wrong_columns(rng, style) for style in range(len(WRONG_LINES))]
+                + [lambda rng, style=style: sheet_columns(rng, style) for style in (*range(5), *range(5))]
+                + [lambda rng, style=style: sheet_called_events(rng, style) for style in (0, 0, 1, 2, 2, 3)] + [sheet_events_for_columns] * 3
+                + [lambda rng, number=number: sheet_of_case(rng, case_table_and_columns(rng, case_one_fault(rng, number))) for number in range(4, 13)]
+                + [lambda rng, maker=maker: sheet_of_case(rng, case_table_and_columns(rng, maker(rng))) for maker in REFUSED_TABLES]
                 + [lambda rng, style=style: sheet_broken(rng, style) for style in (0, 1, 1, 2, 2)]
                 + [sheet_kin] * 10 + [sheet_empty] * 6 + [sheet_bad_lines] * 6 + [sheet_late_bad_line] * 2
                 + [lambda rng, lists=lists: sheet_many_lists(rng, lists) for lists in (63, 64, 65, 128, 256, 257)]
@@ -2572,7 +2884,8 @@ FIRST_SHEETS = ([lambda rng, style=style: sheet_forms(rng, style) for style in (
                 + [lambda rng, words=words: sheet_of_case(rng, case_plan_size(rng, words)) for words in (4096, 4097)]
                 + [lambda rng, size=size: sheet_size(rng, size) for size in (32768, 32769, 65535, 65536, 65537)]
                 + [lambda rng, size=size: sheet_table_size(rng, size) for size in (32767, 32768, 32769)] + [sheet_long_table_part]
-                + [lambda rng, lists=lists: sheet_empty_lists(rng, lists) for lists in (1000, 9361, 9362)]
+                + [lambda rng, lists=lists: sheet_empty_lists(rng, lists) for lists in (1000, 7280, 7281, 7282)]
+                + [sheet_last_columns] * 3 + [lambda rng: sheet_last_columns(rng, 7282)] * 2
                 + [sheet_widest, sheet_fullest, lambda rng: sheet_fullest(rng, 1)]
                 + [lambda rng, regions=regions: sheet_claims(rng, regions) for regions in (0, 0, 0, 1, 2, 3, 31, 32, 33, 54, 63, 64, 64, 64)])
 _SHEET_WEIGHTS = [weight for weight, _ in SHEETS]

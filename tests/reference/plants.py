@@ -668,12 +668,12 @@ def open_last_line(line, n):
 
 def list_first(data):
     """A bad event line told of before the table's own refusals."""
-    table, lines, events_line, closed = gates.part_input(data)
+    table, lists = gates.part_list(data)
     head = gates.read_head(table.split(b'\n')[0])
-    if len(data) <= gates.INPUT_BYTES and head and events_line and closed:
-        for offset, line in enumerate(lines, 1):
-            if gates.event_values(line, len(head)) is None:
-                return gates.refused(23, events_line + offset)
+    if len(data) <= gates.INPUT_BYTES and head and gates.wrong_columns(lists, head) is None:
+        place = gates.read_lists(lists, len(head))[0]
+        if place is not None:
+            return gates.refused(23, place)
     return _ORIGINAL['gatecount'](data)
 
 
@@ -1706,35 +1706,36 @@ def parted(change):
 
 def one_list(lists):
     """The first line `events` only, which opens a list of all lines; the others are passed over."""
-    lines = [line for _, _, lines in lists for line in lines]
-    return [(lists[0][0], all(closed for _, closed, _ in lists), lines)] if lists else []
+    lines = [line for _, _, _, lines in lists for line in lines]
+    return [(lists[0][0], all(closed for _, closed, _, _ in lists), lists[0][2], lines)] if lists else []
 
 
 def gatecounts_list(lists):
     """A second `events` is a bad line, as it is for `gatecount`."""
-    return lists[:1] if len(lists) < 2 else [(lists[0][0], lists[0][1], lists[0][2] + [b'events\n'])]
+    return lists[:1] if len(lists) < 2 else [(*lists[0][:3], lists[0][3] + [b'events\n'])]
 
 
 def other_events_line(forms):
-    """Lines behind the first `events` that open a list too."""
+    """Lines among the events that open a list too, by the columns of the one before."""
     def faulty(data):
         table, lists = _ORIGINAL['part_lists'](data)
         found = []
-        for events_line, closed, lines in lists:
-            found.append((events_line, closed, []))
-            for number, line in enumerate(lines, events_line + 1):
+        for events_line, closed, columns, lines in lists:
+            found.append((events_line, closed, columns, []))
+            for number, line in enumerate(lines, events_line + 2):
                 if line in forms:
-                    found.append((number, True, []))
+                    found.append((number - 1, True, columns, []))
                 else:
-                    found[-1][2].append(line)
+                    found[-1][3].append(line)
         return table, found
     return {'part_lists': faulty}
 
 
 def bad_lines_of(lists, n):
     """For each list its bad lines."""
-    return [[events_line] * (not closed) + [number for number, line in enumerate(lines, events_line + 1) if gates.event_values(line, n) is None]
-            for events_line, closed, lines in lists]
+    return [[events_line] * (not closed) + [events_line + 1] * (closed and columns[-1:] != b'\n')
+            + [number for number, line in enumerate(lines, events_line + 2) if gates.event_values(line, n) is None]
+            for events_line, closed, columns, lines in lists]
 
 
 def other_bad_line(choose):
@@ -1766,32 +1767,32 @@ def read_otherwise(change):
 
 
 def bad_lines_passed_over(one, n):
-    events_line, closed, lines = one
-    return events_line, closed, [line for line in lines if gates.event_values(line, n) is not None]
+    *opening, lines = one
+    return *opening, [line for line in lines if gates.event_values(line, n) is not None]
 
 
 def bad_lines_spoilt(one, n):
-    events_line, closed, lines = one
-    return events_line, closed, [line if gates.event_values(line, n) is not None else b'\t'.join([b'70000'] * n) + b'\n' for line in lines]
+    *opening, lines = one
+    return *opening, [line if gates.event_values(line, n) is not None else b'\t'.join([b'70000'] * n) + b'\n' for line in lines]
 
 
 def closed_by_itself(one, n):
-    events_line, closed, lines = one
-    return events_line, closed, [line if line[-1:] == b'\n' else line + b'\n' for line in lines]
+    *opening, lines = one
+    return *opening, [line if line[-1:] == b'\n' else line + b'\n' for line in lines]
 
 
 def far_in_later_lists(one, n):
-    events_line, closed, lines = one
-    return events_line, closed, [b'x\n' if any(abs(value) > 2 ** 31 for value in gates.event_values(line, n) or []) else line for line in lines]
+    *opening, lines = one
+    return *opening, [b'x\n' if any(abs(value) > 2 ** 31 for value in gates.event_values(line, n) or []) else line for line in lines]
 
 
 def read_by_values(lists, n):
     """A list asked for the number of its values only, not line by line."""
     place, values = _ORIGINAL['read_lists'](lists, n)
-    if place is None or len(lists) < 2 or not all(closed for _, closed, _ in lists):
+    if place is None or len(lists) < 2 or not all(closed and columns[-1:] == b'\n' for _, closed, columns, _ in lists):
         return place, values
     read = []
-    for _, _, lines in lists:
+    for _, _, _, lines in lists:
         fields = [field for line in lines for field in line[:-1].split(b'\t')]
         if not all(line[-1:] == b'\n' for line in lines) or not all(gates.is_number(field) for field in fields) or len(fields) % n:
             return place, None
@@ -1822,7 +1823,7 @@ def lists_first(data):
     """A bad line of a list told of before the table's own refusals."""
     table, lists = gates.part_lists(data)
     head = gates.read_head(table.split(b'\n')[0])
-    if len(data) <= gates.INPUT_BYTES and head and lists:
+    if len(data) <= gates.INPUT_BYTES and head and gates.wrong_columns(lists, head) is None:
         place = gates.read_lists(lists, len(head))[0]
         if place is not None:
             return gates.refused(23, place)
@@ -1876,9 +1877,9 @@ SHEET_PLANTS = {
     'sheet-last-list-lost': parted(lambda lists: lists[:-1]),
     'sheet-first-column-lost': columns_changed(lambda columns: columns[1:]),
     'sheet-last-column-lost': columns_changed(lambda columns: columns[:-1]),
-    'sheet-empty-list-without-column': parted(lambda lists: [each for each in lists if each[2] or not each[1]]),
-    'sheet-empty-last-list-without-column': parted(lambda lists: lists[:-1] if lists and lists[-1][1] and not lists[-1][2] else lists),
-    'sheet-empty-first-list-without-column': parted(lambda lists: lists[1:] if lists and lists[0][1] and not lists[0][2] else lists),
+    'sheet-empty-list-without-column': parted(lambda lists: [each for each in lists if each[3] or not each[1]]),
+    'sheet-empty-last-list-without-column': parted(lambda lists: lists[:-1] if lists and lists[-1][1] and not lists[-1][3] else lists),
+    'sheet-empty-first-list-without-column': parted(lambda lists: lists[1:] if lists and lists[0][1] and not lists[0][3] else lists),
     'sheet-empty-list-as-the-one-before': columns_changed(lambda columns: [
         number or columns[at - 1] if at else number for at, number in enumerate(columns)]),
     'sheet-no-list-with-a-column': tallies_changed(lambda tallies: tallies or [added([])]),
@@ -1889,7 +1890,7 @@ SHEET_PLANTS = {
     'sheet-64-columns-only': tallies_changed(lambda tallies: tallies[:64]),
     'sheet-255-columns-only': tallies_changed(lambda tallies: tallies[:255]),
     'sheet-4096-columns-only': tallies_changed(lambda tallies: tallies[:4096]),
-    'sheet-9360-columns-only': tallies_changed(lambda tallies: tallies[:9360]),
+    'sheet-7280-columns-only': tallies_changed(lambda tallies: tallies[:7280]),
     'sheet-65th-column-added-to-the-64th': tallies_changed(lambda tallies: (
         tallies if len(tallies) < 65 else tallies[:63] + [added(tallies[63:65])] + tallies[65:])),
     'sheet-rest-of-64-in-the-next-list': lists_rearranged(rest_of_64_to_the_next),
@@ -1969,7 +1970,7 @@ SHEET_PLANTS = {
     'sheet-bad-lines-of-later-lists-passed-over': read_otherwise(bad_lines_passed_over),
     'sheet-bad-lines-of-later-lists-spoilt': read_otherwise(bad_lines_spoilt),
     'sheet-later-list-open': read_otherwise(closed_by_itself),
-    'sheet-later-events-open': read_otherwise(lambda one, n: (one[0], True, one[2])),
+    'sheet-later-events-open': read_otherwise(lambda one, n: one if one[1] else (one[0], True, b'\n', [])),
     'sheet-open-events-lost': parted(lambda lists: lists[:-1] if len(lists) > 1 and not lists[-1][1] else lists),
     'sheet-far-is-ragged-in-later-lists': read_otherwise(far_in_later_lists),
     'sheet-only-first-and-last-list-read': {'read_lists': lambda lists, n: _ORIGINAL['read_lists'](
@@ -1994,7 +1995,7 @@ SHEET_PLANTS = {
     'sheet-number-of-the-list': other_bad_line(lambda lists, found: list_with(lists, found) + 1),
     'sheet-lists-before-table': {'gatesheet': lists_first},
     'sheet-no-list-refused': refused_where(lambda data, lists: None if lists else data.count(b'\n') + 1),
-    'sheet-empty-list-refused': refused_where(lambda data, lists: next((number for number, _, lines in lists if not lines), None)),
+    'sheet-empty-list-refused': refused_where(lambda data, lists: next((number for number, _, _, lines in lists if not lines), None)),
     'sheet-32768-bytes-in-all': limited(lambda data: len(data) <= 32768),
     'sheet-65535-bytes-in-all': limited(lambda data: len(data) <= 65535),
     'sheet-65537-bytes-in-all': limited(lambda data: len(data) <= 65537),
@@ -2214,6 +2215,335 @@ UNCLAIMED_PLANTS = {
     'unclaimed-in-gatecount-at-the-end': unclaimed_by_gatecount(-1),
 }
 PLANTS.update(UNCLAIMED_PLANTS)
+
+
+# ---------------------------------------------------------------- column lines
+
+def column_fields(line):
+    return (line[:-1] if line[-1:] == b'\n' else line).split(b'\t')
+
+
+def line_taken(good):
+    """A wrong column line taken for right where this is so: by its fields and the names of the head."""
+    def faulty(line, head):
+        place = _ORIGINAL['wrong_column'](line, head)
+        return None if place is None or good(column_fields(line), head) else place
+    return {'wrong_column': faulty}
+
+
+def line_read(change):
+    """Another line read in the place of a column line: by the fields of the one that is there."""
+    return {'wrong_column': lambda line, head: _ORIGINAL['wrong_column'](b'\t'.join(change(column_fields(line))) + line[-1:], head)}
+
+
+def column_told(told):
+    """Another place of a wrong column line: by its fields, the names of the head and the place."""
+    def faulty(line, head):
+        place = _ORIGINAL['wrong_column'](line, head)
+        return None if place is None else told(column_fields(line), head, place)
+    return {'wrong_column': faulty}
+
+
+def last_difference(fields, head, place):
+    longer = max(len(fields), len(head))
+    return max(at for at in range(longer) if fields[at:at + 1] != head[at:at + 1])
+
+
+def first_differing_byte(fields, head, place):
+    one, other = b'\t'.join(fields), b'\t'.join(head)
+    return next((at for at, pair in enumerate(zip(one, other)) if pair[0] != pair[1]), min(len(one), len(other)))
+
+
+def lists_tested(chosen):
+    """The column lines of some lists only: by all lists."""
+    return {'wrong_columns': lambda lists, head: _ORIGINAL['wrong_columns'](chosen(lists), head)}
+
+
+def wrong_list_told(told):
+    """Another place where some column line is wrong: by the lists, and for each its place or None."""
+    def faulty(lists, head):
+        found = [_ORIGINAL['wrong_columns']([each], head) for each in lists]
+        return told(lists, found) if any(place is not None for place in found) else None
+    return {'wrong_columns': faulty}
+
+
+def first_wrong(lists, found):
+    return next(at for at, place in enumerate(found) if place is not None)
+
+
+def right_line(table):
+    return table.split(b'\n')[0].partition(b'\t')[2] + b'\n'
+
+
+def lists_read(change):
+    """Other lists, in both programs: by the right column line and each list."""
+    def other(part):
+        def faulty(data):
+            table, lists = _ORIGINAL[part](data)
+            return table, [change(right_line(table), *each) for each in lists]
+        return faulty
+    return {part: other(part) for part in ('part_list', 'part_lists')}
+
+
+def refused_otherwise(told):
+    """Another refusal, below a good head: by the lists, the head and what was found, the number and place told of or None."""
+    def faulty(table, lists):
+        found = _ORIGINAL['read_input'](table, lists)
+        head = gates.read_head(table.split(b'\n')[0])
+        other = told(lists, head, found) if head else None
+        return (*other, None, [], None) if other else found
+    return {'read_input': faulty}
+
+
+def wrong_before(*refusals):
+    """31 before these refusals of the table."""
+    def told(lists, head, found):
+        place = gates.wrong_columns(lists, head)
+        return (31, place) if found[0] in refusals and place is not None else None
+    return refused_otherwise(told)
+
+
+def bad_line_first(lists, head, found):
+    """23 of a line before 31 of any; a missing line is no bad one."""
+    place = gates.read_lists([each for each in lists if each[2] or not each[1]], len(head))[0]
+    return (23, place) if found[0] == 31 and place is not None else None
+
+
+def list_by_list(lists, head, found):
+    """31 and 23 of a list before those of the next."""
+    for each in lists if found[0] == 31 else []:
+        wrong, bad = gates.wrong_columns([each], head), gates.read_lists([each], len(head))[0]
+        if wrong is not None or bad is not None:
+            return (31, wrong) if wrong is not None else (23, bad)
+    return None
+
+
+def line_by_line(lists, head, found):
+    """Each list's 23 before the 31 of the next, and its own too, but for an open column line."""
+    for each in lists if found[0] == 31 else []:
+        wrong, bad = gates.wrong_columns([each], head), gates.read_lists([each], len(head))[0]
+        if each[3] and bad is not None:
+            return 23, bad
+        if wrong is not None:
+            return 31, wrong
+    return None
+
+
+def open_line_first(lists, head, found):
+    """An input's last line without LF told of before 31."""
+    if found[0] != 31:
+        return None
+    number, closed, columns, lines = lists[-1]
+    last = [b'events' + b'\n' * closed] + [columns] * bool(columns) + lines
+    return (23, number + len(last) - 1) if last[-1][-1:] != b'\n' else None
+
+
+def in_both(change):
+    """Both programs changed alike: by the one that is there and the input."""
+    return {program: lambda data, original=_ORIGINAL[program]: change(original, data) for program in ('gatecount', 'gatesheet')}
+
+
+def wrong_before_the_limit(original, data):
+    """31 told of an input over 65,536 bytes."""
+    limit, gates.INPUT_BYTES = gates.INPUT_BYTES, len(data)
+    try:
+        output = original(data)
+    finally:
+        gates.INPUT_BYTES = limit
+    return output if output.startswith(b'refused\t31\t') and is_refusal(output) else original(data)
+
+
+def untested_by(program):
+    """One of the programs doesn't test its column lines."""
+    def faulty(data):
+        tested, gates.wrong_columns = gates.wrong_columns, lambda lists, head: None
+        try:
+            return _ORIGINAL[program](data)
+        finally:
+            gates.wrong_columns = tested
+    return {program: faulty}
+
+
+def events_always_open(missing):
+    """Each `events` opens a list, one directly after another too: by the right column line, what stands for that of a list without one."""
+    def faulty(data):
+        table, lines, events_line, closed = gates.part_input(data)
+        lists = []
+        for number, line in enumerate([b'events' + b'\n' * closed] + lines if events_line else [], events_line or 0):
+            if line in gates.EVENTS:
+                lists.append([number, line[-1:] == b'\n', b'', []])
+            elif not lists[-1][2]:
+                lists[-1][2] = line
+            else:
+                lists[-1][3].append(line)
+        # Only the end of the input leaves the last list without one.
+        return table, [(*each[:2], each[2] or missing(right_line(table)), each[3]) for each in lists[:-1]] + [tuple(each) for each in lists[-1:]]
+    return {'part_lists': faulty}
+
+
+def every_list_asked(data):
+    """`gatecount` asks for the column line behind a second `events` too, before it refuses that."""
+    table, lists = gates.part_lists(data)
+    if len(data) <= gates.INPUT_BYTES and gates.compile_table(table, gates.PLAN_WORDS)[0] == 0:
+        place = gates.wrong_columns(lists, gates.read_table(table)[2])
+        if place is not None:
+            return gates.refused(31, place)
+    return _ORIGINAL['gatecount'](data)
+
+
+def bad_line_told(told):
+    """Another line of 23: by the lists and the line."""
+    def faulty(lists, n):
+        place, values = _ORIGINAL['read_lists'](lists, n)
+        return place if place is None else told(lists, place), values
+    return {'read_lists': faulty}
+
+
+def columns_before_line(lists, place):
+    """How many column lines stand before a line."""
+    return sum(1 for events_line, _, columns, _ in lists if columns and events_line + 1 < place)
+
+
+def spoilt_columns(lists, n):
+    """A column line counted as a spoilt event."""
+    place, values = _ORIGINAL['read_lists'](lists, n)
+    return place, values and [[70000] * n + each for each in values]
+
+
+COLUMN_PLANTS = {
+    # Which lines are right.
+    'columns-not-tested': line_taken(lambda fields, head: True),
+    'columns-as-a-set': line_taken(lambda fields, head: set(fields) == set(head)),
+    'columns-in-any-order': line_taken(lambda fields, head: sorted(fields) == sorted(head)),
+    'columns-reversed-taken': line_taken(lambda fields, head: fields == head[::-1]),
+    'columns-each-in-the-head': line_taken(lambda fields, head: len(fields) == len(head) and set(fields) <= set(head)),
+    'columns-some-of-the-head': line_taken(lambda fields, head: set(fields) <= set(head)),
+    'columns-all-of-the-head': line_taken(lambda fields, head: set(fields) >= set(head)),
+    'columns-by-their-number': line_taken(lambda fields, head: len(fields) == len(head)),
+    'columns-shorter-taken': line_taken(lambda fields, head: fields == head[:len(fields)]),
+    'columns-one-less-taken': line_taken(lambda fields, head: fields == head[:-1]),
+    'columns-longer-taken': line_taken(lambda fields, head: fields[:len(head)] == head),
+    'columns-ninth-taken': line_taken(lambda fields, head: fields[:len(head)] == head and len(head) == 8),
+    'columns-number-in-8-bits': line_taken(lambda fields, head: fields[:len(head)] == head and len(fields) % 256 == len(head)),
+    'columns-tab-at-the-end-taken': line_taken(lambda fields, head: fields == head + [b'']),
+    'columns-tabs-at-the-end-taken': line_taken(lambda fields, head: fields[:len(head)] == head and not any(fields[len(head):])),
+    'columns-tab-before-taken': line_taken(lambda fields, head: fields == [b''] + head),
+    'columns-empty-fields-passed-over': line_taken(lambda fields, head: [field for field in fields if field] == head),
+    'columns-empty-line-taken': line_taken(lambda fields, head: fields == [b'']),
+    'columns-first-alone': line_taken(lambda fields, head: fields[0] == head[0]),
+    'columns-last-alone': line_taken(lambda fields, head: fields[-1] == head[-1]),
+    'columns-first-not-compared': line_taken(lambda fields, head: len(fields) == len(head) and fields[1:] == head[1:]),
+    'columns-last-not-compared': line_taken(lambda fields, head: len(fields) == len(head) and fields[:-1] == head[:-1]),
+    'columns-eighth-not-compared': line_taken(lambda fields, head: len(fields) == len(head) == 8 and fields[:-1] == head[:-1]),
+    'columns-ends-alone': line_taken(lambda fields, head: len(fields) == len(head) and (fields[0], fields[-1]) == (head[0], head[-1])),
+    'columns-case-ignored': line_taken(lambda fields, head: [field.lower() for field in fields] == [name.lower() for name in head]),
+    'columns-first-letters': line_taken(lambda fields, head: [field[:1] for field in fields] == [name[:1] for name in head]),
+    'columns-15-letters': line_taken(lambda fields, head: [field[:15] for field in fields] == [name[:15] for name in head]),
+    'columns-by-length-of-names': line_taken(lambda fields, head: [len(field) for field in fields] == [len(name) for name in head]),
+    'columns-begin-alike': line_taken(lambda fields, head: len(fields) == len(head) and all(name.startswith(field) for field, name in zip(fields, head))),
+    'columns-begin-with-names': line_taken(lambda fields, head: len(fields) == len(head) and all(field.startswith(name) for field, name in zip(fields, head))),
+    'columns-last-begins-with-name': line_taken(lambda fields, head: len(fields) == len(head) and fields[:-1] == head[:-1] and fields[-1].startswith(head[-1])),
+    'columns-line-begins-with-names': line_taken(lambda fields, head: b'\t'.join(fields).startswith(b'\t'.join(head))),
+    'columns-cr-ignored': line_read(lambda fields: fields[:-1] + [fields[-1][:-1] if fields[-1][-1:] == b'\r' else fields[-1]]),
+    'columns-space-at-the-end-ignored': line_read(lambda fields: fields[:-1] + [fields[-1].rstrip(b' ')]),
+    'columns-space-before-ignored': line_read(lambda fields: [fields[0].lstrip(b' ')] + fields[1:]),
+    'columns-spaces-ignored': line_read(lambda fields: [field.strip(b' ') for field in fields]),
+    'columns-spaces-part-fields': line_read(lambda fields: b'\t'.join(fields).replace(b' ', b'\t').split(b'\t')),
+    'columns-commas-part-fields': line_read(lambda fields: b'\t'.join(fields).replace(b',', b'\t').split(b'\t')),
+    'columns-tabs-run-together': line_read(lambda fields: [field for field in fields[:-1] if field] + fields[-1:]),
+    'columns-end-at-nul': line_read(lambda fields: b'\t'.join(fields).partition(b'\0')[0].split(b'\t')),
+    'columns-with-marks': line_read(lambda fields: [field.partition(b':')[0] for field in fields]),
+    'columns-with-dims': line_taken(lambda fields, head: fields == [b'dims'] + head),
+    'columns-event-line-taken': line_taken(lambda fields, head: len(fields) == len(head) and all(gates.is_number(field) for field in fields)),
+    'columns-events-never-right': {'wrong_column': lambda line, head: 0 if line in gates.EVENTS else _ORIGINAL['wrong_column'](line, head)},
+    'columns-events-always-right': line_taken(lambda fields, head: fields == [b'events']),
+    'columns-one-name-not-tested': line_taken(lambda fields, head: len(head) == 1),
+    # The place.
+    'columns-place-from-1': column_told(lambda fields, head, place: place + 1),
+    'columns-place-always-0': column_told(lambda fields, head, place: 0),
+    'columns-place-of-last-difference': column_told(last_difference),
+    'columns-place-in-bytes': column_told(first_differing_byte),
+    'columns-place-number-of-names': column_told(lambda fields, head, place: len(head)),
+    'columns-place-number-of-fields': column_told(lambda fields, head, place: len(fields)),
+    'columns-lengths-first': column_told(lambda fields, head, place: min(len(fields), len(head)) if len(fields) != len(head) else place),
+    'columns-unequal-at-0': column_told(lambda fields, head, place: 0 if len(fields) != len(head) else place),
+    'columns-unequal-at-end-of-longer': column_told(lambda fields, head, place: max(len(fields), len(head)) if place == min(len(fields), len(head)) else place),
+    'columns-unequal-at-last-of-longer': column_told(
+        lambda fields, head, place: max(len(fields), len(head)) - 1 if place == min(len(fields), len(head)) else place),
+    'columns-unequal-at-last-of-shorter': column_told(lambda fields, head, place: place - 1 if place == min(len(fields), len(head)) else place),
+    'columns-longer-at-its-last': column_told(lambda fields, head, place: len(fields) - 1 if place == len(head) else place),
+    'columns-place-of-the-name': column_told(lambda fields, head, place: head.index(fields[place]) if fields[place:] and fields[place] in head else place),
+    'columns-place-within-the-names': column_told(lambda fields, head, place: min(place, len(head) - 1)),
+    'columns-place-at-most-7': column_told(lambda fields, head, place: min(place, 7)),
+    'columns-place-as-line': wrong_list_told(lambda lists, found: lists[first_wrong(lists, found)][0] + 1),
+    'columns-place-as-line-of-events': wrong_list_told(lambda lists, found: lists[first_wrong(lists, found)][0]),
+    'columns-place-as-list': wrong_list_told(lambda lists, found: first_wrong(lists, found)),
+    'columns-place-as-list-from-1': wrong_list_told(lambda lists, found: first_wrong(lists, found) + 1),
+    # Which lists.
+    'columns-of-first-list-only': lists_tested(lambda lists: lists[:1]),
+    'columns-of-last-list-only': lists_tested(lambda lists: lists[-1:]),
+    'columns-first-list-not-tested': lists_tested(lambda lists: lists[1:]),
+    'columns-last-list-not-tested': lists_tested(lambda lists: lists[:-1]),
+    'columns-last-of-several-not-tested': lists_tested(lambda lists: lists[:-1] if len(lists) > 1 else lists),
+    'columns-first-two-lists-only': lists_tested(lambda lists: lists[:2]),
+    'columns-first-and-last-list-only': lists_tested(lambda lists: lists[:1] + lists[1:][-1:]),
+    'columns-64-lists-only': lists_tested(lambda lists: lists[:64]),
+    'columns-7280-lists-only': lists_tested(lambda lists: lists[:7280]),
+    'columns-of-empty-lists-not-tested': lists_tested(lambda lists: [each for each in lists if each[3]]),
+    'columns-of-lists-with-events-not-tested': lists_tested(lambda lists: [each for each in lists if not each[3]]),
+    'columns-last-wrong-line': wrong_list_told(lambda lists, found: [place for place in found if place is not None][-1]),
+    'columns-lowest-place': wrong_list_told(lambda lists, found: min(place for place in found if place is not None)),
+    'columns-highest-place': wrong_list_told(lambda lists, found: max(place for place in found if place is not None)),
+    'columns-not-tested-by-gatecount': untested_by('gatecount'),
+    'columns-not-tested-by-gatesheet': untested_by('gatesheet'),
+    # The order of refusals.
+    'columns-after-bad-lines': refused_otherwise(bad_line_first),
+    'columns-list-by-list': refused_otherwise(list_by_list),
+    'columns-line-by-line': refused_otherwise(line_by_line),
+    'columns-after-open-line': refused_otherwise(open_line_first),
+    'columns-before-table': wrong_before(*range(1, 18)),
+    'columns-before-lines': wrong_before(*range(4, 13)),
+    'columns-before-names': wrong_before(*range(13, 17)),
+    'columns-before-circles': wrong_before(16),
+    'columns-before-long-plan': wrong_before(17),
+    'columns-before-long-table': wrong_before(1),
+    'columns-before-long-input': in_both(wrong_before_the_limit),
+    'columns-refused-by-23': {'refused': lambda number, place: _ORIGINAL['refused'](23 if number == 31 else number, place)},
+    'columns-refused-by-30': {'refused': lambda number, place: _ORIGINAL['refused'](30 if number == 31 else number, place)},
+    'columns-refused-by-3': {'refused': lambda number, place: _ORIGINAL['refused'](3 if number == 31 else number, place)},
+    # Missing and open lines.
+    'columns-not-asked': lists_read(lambda right, number, closed, columns, lines: (number - closed, closed, right, [columns] * bool(columns) + lines)),
+    'columns-missing-taken': lists_read(lambda right, number, closed, columns, lines: (number, closed, columns or right, lines)),
+    'columns-missing-is-23': lists_tested(lambda lists: [each for each in lists if each[2]]),
+    'columns-missing-is-23-at-events': {**lists_tested(lambda lists: [each for each in lists if each[2]]),
+                                        **bad_line_told(lambda lists, place: place - (lists[-1][:3] == (place - 1, True, b'')))},
+    'columns-missing-at-end-of-names': {'wrong_column': lambda line, head: _ORIGINAL['wrong_column'](line, head) if line else len(head)},
+    'columns-open-taken': lists_read(lambda right, number, closed, columns, lines: (number, closed, right if columns == right[:-1] else columns, lines)),
+    'columns-open-is-31': {'wrong_column': lambda line, head: _ORIGINAL['wrong_column'](line if line[-1:] == b'\n' else line + b'\t', head)},
+    'columns-open-is-31-at-its-last': {'wrong_column': lambda line, head: _ORIGINAL['wrong_column'](line if line[-1:] == b'\n' else line + b'x', head)},
+    'columns-open-is-31-at-0': {'wrong_column': lambda line, head: _ORIGINAL['wrong_column'](line, head) if line[-1:] == b'\n' else 0},
+    'columns-open-and-wrong-is-23': lists_tested(lambda lists: [each for each in lists if each[2][-1:] == b'\n' or not each[2]]),
+    'columns-open-at-events': bad_line_told(lambda lists, place: place - (lists[-1][0] == place - 1 and lists[-1][2][-1:] != b'\n')),
+    'columns-open-last-letter-lost': {'wrong_column': lambda line, head: _ORIGINAL['wrong_column'](
+        line if line[-1:] == b'\n' or line == b'\t'.join(head) else line[:-1] + b'\n', head)},
+    'columns-asked-of-open-events': lists_tested(lambda lists: [(number, True, columns, lines) for number, _, columns, lines in lists]),
+    'columns-asked-without-events': refused_otherwise(lambda lists, head, found: None if lists or found[0] else (31, 0)),
+    # Which lines open a list.
+    'columns-events-opens-another': events_always_open(lambda right: right),
+    'columns-events-opens-another-and-lacks': events_always_open(lambda right: b''),
+    'columns-asked-of-second-list-by-gatecount': {'gatecount': every_list_asked},
+    'columns-first-list-alone-counted-by-gatecount': {'part_list': lambda data: _ORIGINAL['part_lists'](data)},
+    'columns-lists-joined-by-gatecount': {'part_list': lambda data: (_ORIGINAL['part_lists'](data)[0], one_list(_ORIGINAL['part_lists'](data)[1]))},
+    # Lines and events behind them.
+    'columns-not-counted-in-line': bad_line_told(lambda lists, place: place - columns_before_line(lists, place)),
+    'columns-of-first-list-not-counted-in-line': bad_line_told(lambda lists, place: place - columns_before_line(lists[:1], place)),
+    'columns-of-later-lists-not-counted-in-line': bad_line_told(lambda lists, place: place - columns_before_line(lists[1:], place)),
+    'columns-counted-twice-in-line': bad_line_told(lambda lists, place: place + columns_before_line(lists, place)),
+    'columns-counted-as-spoilt': {'read_lists': spoilt_columns},
+    'columns-and-first-event-passed-over': lists_read(lambda right, number, closed, columns, lines: (number + bool(lines[1:]), closed, columns, lines[1:])),
+    'columns-not-counted-in-bytes': limited(lambda data: len(data) - sum(len(columns) for _, _, columns, _ in gates.part_lists(data)[1]) <= 65536),
+}
+PLANTS.update(COLUMN_PLANTS)
 
 
 @contextlib.contextmanager

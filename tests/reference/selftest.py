@@ -4,8 +4,8 @@
     tests/reference/selftest.py [--seed S] [--tables N]
 
 First come the examples that 01 prints and small cases at each of its rules, and at those of
-02 a on outlines, 02 b on decimals, 02 d on ellipsoids, 02 e on sheets and 02 f on unclaimed events; then,
-for random tables, the plan against the lines, other orders of lines, sums of quadrants, sheets against
+02 a on outlines, 02 b on decimals, 02 d on ellipsoids, 02 e on sheets, 02 f on unclaimed events and 02 g on
+column lines; then, for random tables, the plan against the lines, other orders of lines, sums of quadrants, sheets against
 counts, and other ways of reckoning the same thing.  The last line is "N passed, M failed".
 """
 
@@ -66,6 +66,11 @@ def line_fault(label, line, number, head='dims A B', before=()):
     refused(label, tabs(head, *before, line), number, 2 + len(before))
 
 
+def columns_of(table):
+    """The right column line of a table's lists: its head without the first field."""
+    return table.split(b'\n')[0].partition(b'\t')[2]
+
+
 def by_name(bits, names):
     """The names of the regions whose bit is set; a bit from the number of regions on is kept as a number."""
     return {names[r] if r < len(names) else r for r in range(bits.bit_length()) if bits >> r & 1}
@@ -107,7 +112,7 @@ EXAMPLE_PLAN = [2, 5, 3, 1, -1, 8, 0, 1, 400, 200, 40000, 0, 30625, 1, 1, 0, 1, 
 
 def worked_example():
     table = tabs(*EXAMPLE)
-    prints('worked example', table + tabs('events', '600 200', '400 375', '599 200', '400 376',
+    prints('worked example', table + tabs('events', 'FSC SSC', '600 200', '400 375', '599 200', '400 376',
                                           '350 200', '70000 0'),
            'Live 3', 'Ring 4', 'Lo 1', 'Hi 3', 'Both 1', 'taken 5', 'spoilt 1')
     accepted('its plan', table, EXAMPLE_PLAN)
@@ -191,7 +196,7 @@ def table_text():
     refused('a reference to a dimension', tabs('dims A', 'rect X A A 0 1'), 15, 2)
     names = 'events taken spoilt dims rect in less unclaimed refused dims08'.split()
     accepted('no word is reserved', tabs('dims events dims', *['rect %s - events 0 1' % name for name in names]))
-    prints('printed alike', tabs('dims dims', 'rect taken - dims 0 9', 'events', '3', '99999', '12'),
+    prints('printed alike', tabs('dims dims', 'rect taken - dims 0 9', 'events', 'dims', '3', '99999', '12'),
            'taken 1', 'taken 2', 'spoilt 1')
 
     for field in generate.BAD_NUMBERS:
@@ -201,7 +206,7 @@ def table_text():
     line_fault('forty digits', 'rect X - A %s *' % FORTY, 8)
     line_fault('forty digits below zero', 'rect X - A * -%s' % FORTY, 8)
     line_fault('thirty thousand digits', 'rect X - A * 1' + '0' * 30000, 8)
-    prints('forty digits in the list', tabs('dims A', 'events', FORTY), 'taken 0', 'spoilt 1')
+    prints('forty digits in the list', tabs('dims A', 'events', 'A', FORTY), 'taken 0', 'spoilt 1')
 
     line_fault('form before range', 'rect X - Z 9 1 A %s x' % FORTY, 7)
     line_fault('range before dimension', 'rect X - Z 9 1 A %s 0' % FORTY, 8)
@@ -430,11 +435,11 @@ def membership():
         check('not and ! at %d' % value, gates.members(nots, [value]), {name.encode() for name in names.split()})
         check('and by the plan', member(nots, [value], 'N'), b'N' in {name.encode() for name in names.split()})
     check('spoilt: in nothing', gates.members(nots, [65536]), set())
-    prints('spoilt: not in not', nots + tabs('events', '65536', '-65537'), 'P 0', 'X 0', 'N 0', 'B 0', 'Z 0', 'K 0',
+    prints('spoilt: not in not', nots + tabs('events', 'A', '65536', '-65537'), 'P 0', 'X 0', 'N 0', 'B 0', 'Z 0', 'K 0',
            'O 0', 'taken 0', 'spoilt 2')
-    prints('spoilt by a dimension that no gate names', tabs('dims A B', 'rect X - A 0 1', 'events', '0 65536', '0 0'),
+    prints('spoilt by a dimension that no gate names', tabs('dims A B', 'rect X - A 0 1', 'events', 'A B', '0 65536', '0 0'),
            'X 1', 'taken 1', 'spoilt 1')
-    prints('spoilt once for several values', tabs('dims A B', 'events', '70000 -70000'), 'taken 0', 'spoilt 1')
+    prints('spoilt once for several values', tabs('dims A B', 'events', 'A B', '70000 -70000'), 'taken 0', 'spoilt 1')
 
     slanted = tabs('dims A B', 'ellip E - A B 0 0 2 1 1 1')
     check('slanted, on the rim', member(slanted, [1, 1], 'E'), True)
@@ -615,7 +620,7 @@ def decimals():
     line_fault('dimension before matrix', 'ellip E - A A 0 0 4.0 6 9 1', 9)
     line_fault('a mean off scale', 'ellip E - A B 65536 0 1.5 0 1 1', 8)
     line_fault('shape before form', 'ellip E - A B 0 0 -0.0 0 1', 5)
-    prints('no decimals in the list', ellip('0 0 1.5 0 1 1') + tabs('events', '0 0', '0 1.0'), 'refused 23 5')
+    prints('no decimals in the list', ellip('0 0 1.5 0 1 1') + tabs('events', 'A B', '0 0', '0 1.0'), 'refused 23 6')
 
     # 000's example 19: 37 along (1, -1) and 30 along (1, 1), and no whole point on its rim; D2 = 2 makes them 37 and 30 times the root of 2.
     example = '40 40 1134.5 -234.5 1134.5 '
@@ -668,7 +673,7 @@ def decimals():
         check('with parents at %s' % event, gates.members(family, event), words_of(inside))
         check('outlines with parents at %s' % event, gates.outlined(family, event), words_of(outline))
         check('and by the plan', position(family, event, 'E') is not None, True)
-    prints('counted', family + tabs('events', '0 3', '1 0', '-1 0', '0 2', '70000 0'), 'R 3', 'E 3', 'C 0', 'N 0', 'P 3', 'taken 4', 'spoilt 1')
+    prints('counted', family + tabs('events', 'A B', '0 3', '1 0', '-1 0', '0 2', '70000 0'), 'R 3', 'E 3', 'C 0', 'N 0', 'P 3', 'taken 4', 'spoilt 1')
 
 
 def words_of(line):
@@ -787,7 +792,7 @@ def ellipsoids():
         check('with parents at %s' % event, gates.members(family, event), words_of(inside))
         check('outlines with parents at %s' % event, gates.outlined(family, event), words_of(outline))
         check('and by the plan', position(family, event, 'E') is not None, True)
-    prints('counted', family + tabs('events', '7 20 40', '0 20 40', '-7 20 40', '7 20 41', '0 0 60', '0 0 65536'),
+    prints('counted', family + tabs('events', 'A B C', '7 20 40', '0 20 40', '-7 20 40', '7 20 41', '0 0 60', '0 0 65536'),
            'R 4', 'E 3', 'Both 0', 'N 0', 'P 2', 'K 1', 'taken 5', 'spoilt 1')
     words = gates.compile_table(upright, 4096)[2]
     check('judged', gates.judge(words, [7, 20, 40]), (0, 0, 1, 1))
@@ -979,12 +984,12 @@ def program():
     head = tabs('dims A')
     two = tabs('dims A B')
 
-    prefix = table + b'events\n'
+    prefix = table + tabs('events', 'A')
     for size, wanted in ((65536, tabs('X 0', 'taken 0', 'spoilt 1')), (65537, tabs('refused 1 0'))):
         data = prefix + b'9' * (size - len(prefix) - 1) + b'\n'
         check('input of %d bytes' % size, (len(data), gates.gatecount(data)), (size, wanted))
     prints('long before all', b'x' * 65537, 'refused 1 0')
-    prints('a table part over 32,768', head + b'x' * 33000 + b'\nevents\n1\n', 'refused 1 0')
+    prints('a table part over 32,768', head + b'x' * 33000 + b'\nevents\nA\n1\n', 'refused 1 0')
     prints('without a list all is table', head + b'x' * 33000, 'refused 1 0')
     for line in (b'events\r', b'events\t', b' events', b'Events', b'events '):
         prints('%r is a table line' % line, table + line + b'\n5\n', 'refused 4 3')
@@ -992,37 +997,52 @@ def program():
     prints('events alone', b'events', 'refused 2 0')
     prints('events without LF', table + b'events', 'refused 23 3')
     prints('events without LF below a bad table', tabs('dims') + b'events', 'refused 3 1')
-    prints('table first', tabs('dims A', 'bogus', 'events', 'x'), 'refused 4 2')
+    prints('table first', tabs('dims A', 'bogus', 'events', 'A', 'x'), 'refused 4 2')
     prints('no list', table, 'X 0', 'taken 0', 'spoilt 0')
     prints('no list, no last LF', table[:-1], 'refused 2 0')
     prints('no list, over 32,768', table + b'rect\tY\t-\tA\t0\t' + b'1' * 40000 + b'\n', 'refused 1 0')
-    prints('lowest bad line', table + tabs('events', '1', '2 3', 'x') + b'4', 'refused 23 5')
-    prints('last line open', table + tabs('events', '1') + b'4', 'refused 23 5')
-    prints('last line open and empty of meaning', table + tabs('events') + b'\t', 'refused 23 4')
-    prints('empty line', table + tabs('events', '1', '', '2'), 'refused 23 5')
-    prints('empty line last', table + tabs('events', '1', ''), 'refused 23 5')
-    prints('empty line alone', table + tabs('events', ''), 'refused 23 4')
-    prints('events again', table + tabs('events', '1', 'events', '2'), 'refused 23 5')
-    prints('events twice at once', table + tabs('events', 'events'), 'refused 23 4')
-    prints('events again without LF', table + tabs('events') + b'events', 'refused 23 4')
-    prints('too few', two + tabs('events', '1 2', '1'), 'refused 23 4')
-    prints('too many', two + tabs('events', '1 2', '1 2 3'), 'refused 23 4')
-    prints('tab at the end', two + tabs('events', '1 2 '), 'refused 23 3')
-    prints('ragged in all but not by lines', two + tabs('events', '1', '2 3 4'), 'refused 23 3')
+    prints('lowest bad line', table + tabs('events', 'A', '1', '2 3', 'x') + b'4', 'refused 23 6')
+    prints('last line open', table + tabs('events', 'A', '1') + b'4', 'refused 23 6')
+    prints('last line open and empty of meaning', table + tabs('events', 'A') + b'\t', 'refused 23 5')
+    prints('empty line', table + tabs('events', 'A', '1', '', '2'), 'refused 23 6')
+    prints('empty line last', table + tabs('events', 'A', '1', ''), 'refused 23 6')
+    prints('empty line alone', table + tabs('events', 'A', ''), 'refused 23 5')
+    prints('events again', table + tabs('events', 'A', '1', 'events', 'A', '2'), 'refused 23 6')
+    prints('events twice, no event between', table + tabs('events', 'A', 'events', 'A'), 'refused 23 5')
+    prints('events again without LF', table + tabs('events', 'A') + b'events', 'refused 23 5')
+    prints('too few', two + tabs('events', 'A B', '1 2', '1'), 'refused 23 5')
+    prints('too many', two + tabs('events', 'A B', '1 2', '1 2 3'), 'refused 23 5')
+    prints('tab at the end', two + tabs('events', 'A B', '1 2 '), 'refused 23 4')
+    prints('ragged in all but not by lines', two + tabs('events', 'A B', '1', '2 3 4'), 'refused 23 4')
     for number in ('4294967296', '2147483648', '-2147483649', '2147483647', '-2147483648', FORTY, '-' + FORTY,
                    '65536', '-65537', '1' + '0' * 5000, '18446744073709551616', '4294967301'):
-        prints('far number %.30s' % number, table + tabs('events', number, '5'), 'X 1', 'taken 1', 'spoilt 1')
+        prints('far number %.30s' % number, table + tabs('events', 'A', number, '5'), 'X 1', 'taken 1', 'spoilt 1')
     for field in generate.BAD_EVENTS:
-        check('bad number %r' % field, gates.gatecount(table + b'events\n5\n' + field + b'\n'), tabs('refused 23 5'))
-    prints('a long bad number', table + tabs('events', FORTY + 'x'), 'refused 23 4')
-    prints('spoilt before bad', table + tabs('events', FORTY, 'x'), 'refused 23 5')
-    prints('no event', table + tabs('events'), 'X 0', 'taken 0', 'spoilt 0')
+        check('bad number %r' % field, gates.gatecount(table + b'events\nA\n5\n' + field + b'\n'), tabs('refused 23 6'))
+    prints('a long bad number', table + tabs('events', 'A', FORTY + 'x'), 'refused 23 5')
+    prints('spoilt before bad', table + tabs('events', 'A', FORTY, 'x'), 'refused 23 6')
+    prints('no event', table + tabs('events', 'A'), 'X 0', 'taken 0', 'spoilt 0')
     prints('head alone', head, 'taken 0', 'spoilt 0')
-    prints('head alone, events', head + tabs('events', '1', '70000'), 'taken 1', 'spoilt 1')
-    prints('limits', head + tabs('events', '-65536', '65535', '65536', '-65537'), 'taken 2', 'spoilt 2')
+    prints('head alone, events', head + tabs('events', 'A', '1', '70000'), 'taken 1', 'spoilt 1')
+    prints('limits', head + tabs('events', 'A', '-65536', '65535', '65536', '-65537'), 'taken 2', 'spoilt 2')
     prints('empty input', b'', 'refused 2 0')
     long_plan = tabs('dims A B', *['poly P%d - A B' % k + ' 1 2' * 256 for k in range(8)])
-    prints('long plan before a bad list', long_plan + tabs('events', 'x'), 'refused 17 0')
+    prints('long plan before a bad list', long_plan + tabs('events', 'A B', 'x'), 'refused 17 0')
+
+
+# Tables that are refused, whatever follows them, and how.
+REFUSED_TABLES = (
+    ('empty', b'', 'refused 2 0'), ('head', tabs('dims'), 'refused 3 1'), ('kind', tabs('dims A', 'bogus'), 'refused 4 2'),
+    ('shape', tabs('dims A', 'rect X - A 0 10', 'rect Y - A 0'), 'refused 5 3'), ('name', tabs('dims A', 'rect X - A 0 10', 'rect 9 - A 0 1'), 'refused 6 3'),
+    ('number', tabs('dims A', 'rect X - A 0 10', 'rect Y - A 00 1'), 'refused 7 3'),
+    ('scale', tabs('dims A', 'rect X - A 0 10', 'rect Y - A %s *' % FORTY), 'refused 8 3'),
+    ('dimension', tabs('dims A', 'rect X - A 0 10', 'rect Y - B 0 1'), 'refused 9 3'),
+    ('bounds', tabs('dims A', 'rect X - A 0 10', 'rect Y - A 1 1'), 'refused 10 3'), ('matrix', tabs('dims A B', 'ellip Y - A B 0 0 4 6 9 1'), 'refused 11 2'),
+    ('tiling', tabs('dims A', 'rect X - A 0 10', 'quad Q - 1 A 1 0 Lo -1'), 'refused 12 3'),
+    ('crowded', tabs('dims A', *['rect X%d - A 0 1' % k for k in range(65)]), 'refused 13 66'),
+    ('twin', tabs('dims A', 'rect X - A 0 10', 'rect X - A 0 10'), 'refused 14 3'), ('dead', tabs('dims A', 'not N - M'), 'refused 15 2'),
+    ('circle', tabs('dims A', 'not N - N'), 'refused 16 2'),
+    ('long plan', tabs('dims A B', *['poly P%d - A B' % k + ' 1 2' * 256 for k in range(8)]), 'refused 17 0'))
 
 
 # ---------------------------------------------------------------- 02 e: gatesheet
@@ -1036,38 +1056,40 @@ def several_lists():
     # A line per region: name, each list, the sum, then the count again and the parent's or the taken (e1); taken, unclaimed (f2), spoilt,
     # events (e2, e6).
     example, first, third = tabs(*EXAMPLE), ('600 200', '400 375'), ('599 200', '400 376', '350 200', '70000 0')
-    sheets('01\'s example in three lists', example + tabs('events', *first, 'events', 'events', *third),
+    sheets('01\'s example in three lists', example + tabs('events', 'FSC SSC', *first, 'events', 'FSC SSC', 'events', 'FSC SSC', *third),
            'Live 1 0 2 3 3 4', 'Ring 2 0 2 4 4 5', 'Lo 0 0 1 1 1 4', 'Hi 2 0 1 3 3 4', 'Both 0 0 1 1 1 5', 'taken 2 0 3 5',
            'unclaimed 0 0 1 1', 'spoilt 0 0 1 1', 'events 6')
-    sheets('01\'s example in one list', example + tabs('events', *first, *third),
+    sheets('01\'s example in one list', example + tabs('events', 'FSC SSC', *first, *third),
            'Live 3 3 3 4', 'Ring 4 4 4 5', 'Lo 1 1 1 4', 'Hi 3 3 3 4', 'Both 1 1 1 5', 'taken 5 5', 'unclaimed 1 1', 'spoilt 1 1', 'events 6')
-    sheets('01\'s example, the lists exchanged', example + tabs('events', *third, 'events', *first),
+    sheets('01\'s example, the lists exchanged', example + tabs('events', 'FSC SSC', *third, 'events', 'FSC SSC', *first),
            'Live 2 1 3 3 4', 'Ring 2 2 4 4 5', 'Lo 1 0 1 1 4', 'Hi 1 2 3 3 4', 'Both 1 0 1 1 5', 'taken 3 2 5', 'unclaimed 1 0 1',
            'spoilt 1 0 1', 'events 6')
     sheets('01\'s example without a list', example, 'Live 0 0 0', 'Ring 0 0 0', 'Lo 0 0 0', 'Hi 0 0 0', 'Both 0 0 0', 'taken 0', 'unclaimed 0', 'spoilt 0',
            'events 0')
-    sheets('two lists', table + tabs('events', '1', '7', 'events', '7', '30', '70000'),
+    sheets('two lists', table + tabs('events', 'A', '1', '7', 'events', 'A', '7', '30', '70000'),
            'X 2 1 3 3 4', 'Y 1 1 2 2 3', 'taken 2 2 4', 'unclaimed 0 1 1', 'spoilt 0 1 1', 'events 5')
-    sheets('the parent below', tabs('dims A', 'rect Y X A 5 20', 'rect X - A 0 10', 'events', '1', '7', 'events', '7', '30', '70000'),
+    sheets('the parent below', tabs('dims A', 'rect Y X A 5 20', 'rect X - A 0 10', 'events', 'A', '1', '7', 'events', 'A', '7', '30', '70000'),
            'Y 1 1 2 2 3', 'X 2 1 3 3 4', 'taken 2 2 4', 'unclaimed 0 1 1', 'spoilt 0 1 1', 'events 5')
-    sheets('a share of the parent, not of its parent', table + tabs('rect Z Y A 6 9', 'events', '1', '5', '6', 'events', '8', '9', '30', 'events', '0'),
+    sheets('a share of the parent, not of its parent',
+           table + tabs('rect Z Y A 6 9', 'events', 'A', '1', '5', '6', 'events', 'A', '8', '9', '30', 'events', 'A', '0'),
            'X 3 2 1 6 6 7', 'Y 2 2 0 4 4 6', 'Z 1 1 0 2 2 4', 'taken 3 3 1 7', 'unclaimed 0 1 0 1', 'spoilt 0 0 0 0', 'events 7')
-    sheets('never divided', table + tabs('events', '1', '7', 'events', '2', '8'), 'X 2 2 4 4 4', 'Y 1 1 2 2 4', 'taken 2 2 4', 'unclaimed 0 0 0',
+    sheets('never divided', table + tabs('events', 'A', '1', '7', 'events', 'A', '2', '8'), 'X 2 2 4 4 4', 'Y 1 1 2 2 4', 'taken 2 2 4', 'unclaimed 0 0 0',
            'spoilt 0 0 0', 'events 4')
-    sheets('a parent without members', table + tabs('events', '30', 'events', '40', '-1'),
+    sheets('a parent without members', table + tabs('events', 'A', '30', 'events', 'A', '40', '-1'),
            'X 0 0 0 0 3', 'Y 0 0 0 0 0', 'taken 1 2 3', 'unclaimed 1 2 3', 'spoilt 0 0 0', 'events 3')
-    sheets('operands are no parents', table + tabs('not N - X', 'not M X Y', 'and B - X Y', 'or O X Y Y', 'events', '1', '30', 'events', '7', '70000'),
+    sheets('operands are no parents',
+           table + tabs('not N - X', 'not M X Y', 'and B - X Y', 'or O X Y Y', 'events', 'A', '1', '30', 'events', 'A', '7', '70000'),
            'X 1 1 2 2 3', 'Y 0 1 1 1 2', 'N 1 0 1 1 3', 'M 1 0 1 1 2', 'B 0 1 1 1 3', 'O 0 1 1 1 2', 'taken 2 1 3', 'unclaimed 0 0 0',
            'spoilt 0 1 1', 'events 4')
-    sheets('names that are no words', tabs('dims events', 'rect taken - events 0 5', 'rect events taken events 1 9', 'rect spoilt - events * *', 'events', '1',
-                                          'events', '7'),
+    sheets('names that are no words', tabs('dims events', 'rect taken - events 0 5', 'rect events taken events 1 9', 'rect spoilt - events * *',
+                                          'events', 'events', '1', 'events', 'events', '7'),
            'taken 1 0 1 1 2', 'events 1 0 1 1 1', 'spoilt 1 1 2 2 2', 'taken 1 1 2', 'unclaimed 0 0 0', 'spoilt 0 0 0', 'events 2')
-    sheets('a region called refused', tabs('dims A', 'rect refused - A 0 5', 'events', '1'), 'refused 1 1 1 1', 'taken 1 1', 'unclaimed 0 0', 'spoilt 0 0',
+    sheets('a region called refused', tabs('dims A', 'rect refused - A 0 5', 'events', 'A', '1'), 'refused 1 1 1 1', 'taken 1 1', 'unclaimed 0 0', 'spoilt 0 0',
            'events 1')
 
     # The parent of a quadrant is its gate's (e5).
     sheets('quadrants', tabs('dims A B', 'rect P - A 0 10', 'quad Q P 1 B 1 5 Lo 0 Hi 9', 'quad R - 1 A 1 5 Left 0 Right 5', 'quad S Lo 1 A 1 3 Sl 0 Sr 3',
-                             'rect T Hi A 9 10', 'events', '1 1', '6 9', 'events', '20 1', '4 4', '9 5'),
+                             'rect T Hi A 9 10', 'events', 'A B', '1 1', '6 9', 'events', 'A B', '20 1', '4 4', '9 5'),
            'P 2 2 4 4 5', 'Lo 1 1 2 2 4', 'Hi 1 1 2 2 4', 'Left 1 1 2 2 5', 'Right 1 2 3 3 5', 'Sl 1 0 1 1 2', 'Sr 0 1 1 1 2', 'T 0 1 1 1 2',
            'taken 2 3 5', 'unclaimed 0 0 0', 'spoilt 0 0 0', 'events 5')
 
@@ -1076,98 +1098,93 @@ def several_lists():
     sheets('no list, a head alone', head, 'taken 0', 'unclaimed 0', 'spoilt 0', 'events 0')
     sheets('no list, no last LF', table[:-1], 'refused 2 0')
     sheets('no list, over 32,768', table + b'rect\tZ\t-\tA\t0\t' + b'1' * 40000 + b'\n', 'refused 1 0')
-    sheets('an empty list', table + tabs('events'), 'X 0 0 0 0', 'Y 0 0 0 0', 'taken 0 0', 'unclaimed 0 0', 'spoilt 0 0', 'events 0')
-    sheets('two empty lists, a head alone', head + tabs('events', 'events'), 'taken 0 0 0', 'unclaimed 0 0 0', 'spoilt 0 0 0', 'events 0')
-    sheets('the first empty', table + tabs('events', 'events', '7'), 'X 0 1 1 1 1', 'Y 0 1 1 1 1', 'taken 0 1 1', 'unclaimed 0 0 0', 'spoilt 0 0 0', 'events 1')
-    sheets('the last empty', table + tabs('events', '7', 'events'), 'X 1 0 1 1 1', 'Y 1 0 1 1 1', 'taken 1 0 1', 'unclaimed 0 0 0', 'spoilt 0 0 0', 'events 1')
-    sheets('some empty', one + tabs('events', 'events', '1', 'events', 'events', '2', '11', 'events'), 'X 0 1 0 1 0 2 2 3', 'taken 0 1 0 2 0 3',
-           'unclaimed 0 0 0 1 0 1', 'spoilt 0 0 0 0 0 0', 'events 3')
-    for lists in (1000, 9361):
+    sheets('an empty list', table + tabs('events', 'A'), 'X 0 0 0 0', 'Y 0 0 0 0', 'taken 0 0', 'unclaimed 0 0', 'spoilt 0 0', 'events 0')
+    sheets('two empty lists, a head alone', head + tabs('events', 'A', 'events', 'A'), 'taken 0 0 0', 'unclaimed 0 0 0', 'spoilt 0 0 0', 'events 0')
+    sheets('the first empty', table + tabs('events', 'A', 'events', 'A', '7'), 'X 0 1 1 1 1', 'Y 0 1 1 1 1', 'taken 0 1 1', 'unclaimed 0 0 0', 'spoilt 0 0 0',
+           'events 1')
+    sheets('the last empty', table + tabs('events', 'A', '7', 'events', 'A'), 'X 1 0 1 1 1', 'Y 1 0 1 1 1', 'taken 1 0 1', 'unclaimed 0 0 0', 'spoilt 0 0 0',
+           'events 1')
+    sheets('some empty', one + tabs('events', 'A', 'events', 'A', '1', 'events', 'A', 'events', 'A', '2', '11', 'events', 'A'),
+           'X 0 1 0 1 0 2 2 3', 'taken 0 1 0 2 0 3', 'unclaimed 0 0 0 1 0 1', 'spoilt 0 0 0 0 0 0', 'events 3')
+    for lists in (1000, 7281):
         nothing = ' 0' * (lists + 1)
-        sheets('%d empty lists' % lists, head + b'events\n' * lists, 'taken' + nothing, 'unclaimed' + nothing, 'spoilt' + nothing, 'events 0')
-    longest = head + b'events\n' * 9361
-    check('9,361 empty lists below the shortest head', (len(longest), len(longest + b'events\n') > 65536), (65534, True))
-    last = ' 0' * 9360 + ' 1 1'
-    sheets('9,361 lists and an event', longest + b'0\n', 'taken' + last, 'unclaimed' + last, 'spoilt' + ' 0' * 9362, 'events 1')
-    sheets('9,361 lists and a line without LF', longest + b'0', 'refused 23 9363')
-    sheets('9,361 lists and an empty line', longest + b'\n', 'refused 23 9363')
-    sheets('9,361 lists and a longer event', longest + b'10\n', 'refused 1 0')
-    sheets('9,362 lists', longest + b'events\n', 'refused 1 0')
+        sheets('%d empty lists' % lists, head + tabs('events', 'A') * lists, 'taken' + nothing, 'unclaimed' + nothing, 'spoilt' + nothing, 'events 0')
+    longest = head + tabs('events', 'A') * 7281
+    check('7,281 empty lists below the shortest head', len(longest), 65536)
+    sheets('7,281 lists and an event', longest + b'0\n', 'refused 1 0')
+    sheets('7,282 lists', longest + tabs('events', 'A'), 'refused 1 0')
+    fewer, last = longest[:-9], ' 0' * 7279 + ' 1 1'
+    sheets('7,280 lists and an event', fewer + b'0\n', 'taken' + last, 'unclaimed' + last, 'spoilt' + ' 0' * 7281, 'events 1')
+    sheets('7,280 lists and a line without LF', fewer + b'0', 'refused 23 14562')
+    sheets('7,280 lists and an empty line', fewer + b'\n', 'refused 23 14562')
 
     # Spoilt events; the last line has them too.
-    sheets('spoilt in the second list', one + tabs('events', '5', 'events', '65536', '-65537', FORTY, '4294967296', '65535', '-65536'),
+    sheets('spoilt in the second list', one + tabs('events', 'A', '5', 'events', 'A', '65536', '-65537', FORTY, '4294967296', '65535', '-65536'),
            'X 1 0 1 1 3', 'taken 1 2 3', 'unclaimed 0 2 2', 'spoilt 0 4 4', 'events 7')
-    sheets('all spoilt', one + tabs('events', FORTY, 'events', '-' + FORTY), 'X 0 0 0 0 0', 'taken 0 0 0', 'unclaimed 0 0 0', 'spoilt 1 1 2', 'events 2')
-    sheets('one value spoils an event', tabs('dims A B', 'rect X - A 0 10', 'events', '1 70000', '1 1', 'events', '70000 70000'),
+    sheets('all spoilt', one + tabs('events', 'A', FORTY, 'events', 'A', '-' + FORTY), 'X 0 0 0 0 0', 'taken 0 0 0', 'unclaimed 0 0 0', 'spoilt 1 1 2',
+           'events 2')
+    sheets('one value spoils an event', tabs('dims A B', 'rect X - A 0 10', 'events', 'A B', '1 70000', '1 1', 'events', 'A B', '70000 70000'),
            'X 1 0 1 1 1', 'taken 1 0 1', 'unclaimed 0 0 0', 'spoilt 1 1 2', 'events 3')
-    sheets('events, not values', tabs('dims A B C', 'events', '1 2 3', 'events', '4 5 6', '7 8 9'), 'taken 1 2 3', 'unclaimed 1 2 3', 'spoilt 0 0 0',
-           'events 3')
+    sheets('events, not values', tabs('dims A B C', 'events', 'A B C', '1 2 3', 'events', 'A B C', '4 5 6', '7 8 9'),
+           'taken 1 2 3', 'unclaimed 1 2 3', 'spoilt 0 0 0', 'events 3')
 
     # 23: the lowest bad line over all lists, counted over the whole input (e8).
-    sheets('bad line in the second list', table + tabs('events', '1', 'events', '2', 'x'), 'refused 23 8')
-    sheets('bad lines in the first list and the third', table + tabs('events', '1', 'x', 'events', '2', 'events', 'y'), 'refused 23 6')
-    sheets('bad lines in the second list and the third', table + tabs('events', '1', 'events', '2', '3', '', 'events', 'y'), 'refused 23 9')
-    sheets('the second list bad behind an empty one', table + tabs('events', 'events', 'x'), 'refused 23 6')
-    sheets('too few in the second list', two + tabs('events', '1 2', 'events', '3'), 'refused 23 5')
-    sheets('too many in the second list', two + tabs('events', '1 2', 'events', '3 4 5'), 'refused 23 5')
-    sheets('an event in two lists', two + tabs('events', '1 2', '3', 'events', '4'), 'refused 23 4')
-    sheets('an event on two lines of the second list', two + tabs('events', 'events', '3', '4'), 'refused 23 4')
-    sheets('two events on a line', two + tabs('events', '1 2', 'events', '1 2 3 4'), 'refused 23 5')
-    sheets('an empty line between the lists', one + tabs('events', '1', '', 'events', '2'), 'refused 23 5')
-    sheets('an empty line at the end', one + tabs('events', '1', 'events', ''), 'refused 23 6')
-    sheets('a table line in a list', one + tabs('events', '1', 'dims A', 'events', '2'), 'refused 23 5')
-    sheets('spoilt before bad', one + tabs('events', FORTY, 'events', '1.5'), 'refused 23 6')
-    sheets('second list without LF', one + tabs('events', '1', 'events') + b'2', 'refused 23 6')
-    sheets('second list without LF, the first bad', one + tabs('events', 'x', 'events') + b'2', 'refused 23 4')
+    sheets('bad line in the second list', table + tabs('events', 'A', '1', 'events', 'A', '2', 'x'), 'refused 23 10')
+    sheets('bad lines in the first list and the third', table + tabs('events', 'A', '1', 'x', 'events', 'A', '2', 'events', 'A', 'y'), 'refused 23 7')
+    sheets('bad lines in the second list and the third', table + tabs('events', 'A', '1', 'events', 'A', '2', '3', '', 'events', 'A', 'y'), 'refused 23 11')
+    sheets('the second list bad behind an empty one', table + tabs('events', 'A', 'events', 'A', 'x'), 'refused 23 8')
+    sheets('too few in the second list', two + tabs('events', 'A B', '1 2', 'events', 'A B', '3'), 'refused 23 7')
+    sheets('too many in the second list', two + tabs('events', 'A B', '1 2', 'events', 'A B', '3 4 5'), 'refused 23 7')
+    sheets('an event in two lists', two + tabs('events', 'A B', '1 2', '3', 'events', 'A B', '4'), 'refused 23 5')
+    sheets('an event on two lines of the second list', two + tabs('events', 'A B', 'events', 'A B', '3', '4'), 'refused 23 6')
+    sheets('two events on a line', two + tabs('events', 'A B', '1 2', 'events', 'A B', '1 2 3 4'), 'refused 23 7')
+    sheets('an empty line between the lists', one + tabs('events', 'A', '1', '', 'events', 'A', '2'), 'refused 23 6')
+    sheets('an empty line at the end', one + tabs('events', 'A', '1', 'events', 'A', ''), 'refused 23 8')
+    sheets('a table line in a list', one + tabs('events', 'A', '1', 'dims A', 'events', 'A', '2'), 'refused 23 6')
+    sheets('spoilt before bad', one + tabs('events', 'A', FORTY, 'events', 'A', '1.5'), 'refused 23 8')
+    sheets('second list without LF', one + tabs('events', 'A', '1', 'events', 'A') + b'2', 'refused 23 8')
+    sheets('second list without LF, the first bad', one + tabs('events', 'A', 'x', 'events', 'A') + b'2', 'refused 23 5')
     sheets('first events without LF', one + b'events', 'refused 23 3')
-    sheets('second events without LF', one + tabs('events', '1') + b'events', 'refused 23 5')
-    sheets('second events without LF behind an empty list', one + tabs('events') + b'events', 'refused 23 4')
-    sheets('second events without LF, the first list bad', one + tabs('events', 'x') + b'events', 'refused 23 4')
+    sheets('second events without LF', one + tabs('events', 'A', '1') + b'events', 'refused 23 6')
+    sheets('second events without LF behind an empty list', one + tabs('events', 'A') + b'events', 'refused 23 5')
+    sheets('second events without LF, the first list bad', one + tabs('events', 'A', 'x') + b'events', 'refused 23 5')
     for line in (b'events\r', b'events\t', b' events', b'Events', b'events '):
-        sheets('%r before the lists' % line, one + line + b'\n5\nevents\n', 'refused 4 3')
-        sheets('%r behind a list' % line, one + b'events\n5\n' + line + b'\n5\nevents\n', 'refused 23 5')
+        sheets('%r before the lists' % line, one + line + b'\nA\n5\nevents\nA\n', 'refused 4 3')
+        sheets('%r behind a list' % line, one + b'events\nA\n5\n' + line + b'\nA\n5\nevents\nA\n', 'refused 23 6')
     for field in generate.BAD_EVENTS:
         if field != b'events':
-            check('sheet: bad number %r' % field, gates.gatesheet(one + b'events\n5\nevents\n' + field + b'\n'), tabs('refused 23 6'))
+            check('sheet: bad number %r' % field, gates.gatesheet(one + b'events\nA\n5\nevents\nA\n' + field + b'\n'), tabs('refused 23 8'))
 
     # The table's own refusals come first, each printed as gatecount prints it.
-    bad = tabs('events', 'x', 'events') + b'y'
-    for what, given, line in (('empty', b'', 'refused 2 0'), ('head', tabs('dims'), 'refused 3 1'), ('kind', tabs('dims A', 'bogus'), 'refused 4 2'),
-                              ('shape', one + tabs('rect Y - A 0'), 'refused 5 3'), ('name', one + tabs('rect 9 - A 0 1'), 'refused 6 3'),
-                              ('number', one + tabs('rect Y - A 00 1'), 'refused 7 3'), ('scale', one + tabs('rect Y - A %s *' % FORTY), 'refused 8 3'),
-                              ('dimension', one + tabs('rect Y - B 0 1'), 'refused 9 3'), ('bounds', one + tabs('rect Y - A 1 1'), 'refused 10 3'),
-                              ('matrix', two + tabs('ellip Y - A B 0 0 4 6 9 1'), 'refused 11 2'),
-                              ('tiling', one + tabs('quad Q - 1 A 1 0 Lo -1'), 'refused 12 3'),
-                              ('crowded', head + tabs(*['rect X%d - A 0 1' % k for k in range(65)]), 'refused 13 66'),
-                              ('twin', one + tabs('rect X - A 0 10'), 'refused 14 3'),
-                              ('dead', tabs('dims A', 'not N - M'), 'refused 15 2'), ('circle', tabs('dims A', 'not N - N'), 'refused 16 2'),
-                              ('long plan', two + tabs(*['poly P%d - A B' % k + ' 1 2' * 256 for k in range(8)]), 'refused 17 0')):
+    bad = tabs('events', 'A', 'x', 'events', 'A') + b'y'
+    for what, given, line in REFUSED_TABLES:
         sheets('table first: ' + what, given + bad, line)
         check('as gatecount: ' + what, gates.gatecount(given + bad), tabs(line))
 
     # 65,536 bytes in all, 32,768 of them of the table (e7).
-    prefix = table + tabs('events', '5', 'events')
+    prefix = table + tabs('events', 'A', '5', 'events', 'A')
     for size, wanted in ((32769, None), (65536, None), (65537, tabs('refused 1 0'))):
         data = prefix + b'9' * (size - len(prefix) - 1) + b'\n'
         wanted = wanted or tabs('X 1 0 1 1 1', 'Y 1 0 1 1 1', 'taken 1 0 1', 'unclaimed 0 0 0', 'spoilt 0 1 1', 'events 2')
         check('sheet: input of %d bytes' % size, (len(data), gates.gatesheet(data)), (size, wanted))
     sheets('long before all', b'x' * 65537, 'refused 1 0')
-    sheets('a table part over 32,768', head + b'x' * 33000 + b'\nevents\n1\nevents\n', 'refused 1 0')
+    sheets('a table part over 32,768', head + b'x' * 33000 + b'\nevents\nA\n1\nevents\nA\n', 'refused 1 0')
 
     # gatecount keeps one list (e9); its numbers for one are the sheet's only column, those for the joined lists its sums.
-    prints('gatecount keeps one list', table + tabs('events', '1', '7', 'events', '7'), 'refused 23 7')
+    prints('gatecount keeps one list', table + tabs('events', 'A', '1', '7', 'events', 'A', '7'), 'refused 23 8')
     for what, given, lists in (('01\'s example', example, (first, (), third)), ('a head alone', two, (first, third)),
                                ('one list', table, (('1', '7', '70000'),)), ('no event', table, ((), ())),
                                ('three lists', table + tabs('not N Y X'), (('1', '7'), ('70000', '8', '9'), ('5',)))):
-        sheet = gates.gatesheet(given + b''.join([tabs('events', *each) for each in lists])).split(b'\n')
-        joined = gates.gatecount(given + tabs('events', *itertools.chain(*lists))).split(b'\n')
+        opening = tabs('events', columns_of(given))
+        sheet = gates.gatesheet(given + b''.join([opening + tabs(*each) for each in lists])).split(b'\n')
+        joined = gates.gatecount(given + opening + tabs(*itertools.chain(*lists))).split(b'\n')
         regions = len(sheet) - 5
         both = sheet[:-4] + sheet[-3:-2]        # gatecount prints no unclaimed (f1)
         check('joined lists: ' + what, [line.split(b'\t')[1 + len(lists)] for line in both], [line.split(b'\t')[1] for line in joined[:-1]])
         check('lines of both: ' + what, [line.split(b'\t')[0] for line in both], [line.split(b'\t')[0] for line in joined[:-1]])
         check('fields: ' + what, [line.count(b'\t') for line in sheet], [len(lists) + 3] * regions + [len(lists) + 1] * 3 + [1, 0])
         for column, each in enumerate(lists, 1):
-            alone = gates.gatecount(given + tabs('events', *each)).split(b'\n')
+            alone = gates.gatecount(given + opening + tabs(*each)).split(b'\n')
             check('list %d alone: %s' % (column, what), [line.split(b'\t')[column] for line in both], [line.split(b'\t')[1] for line in alone[:-1]])
 
 
@@ -1181,7 +1198,7 @@ def unclaims(label, table, events, taken, unclaimed):
     check('unclaimed: ' + label, (tally[:4], tally[5]), ((0, 0, taken, len(lines) - taken), unclaimed))
     in_none = [event for event in values if all(-65536 <= value <= 65535 for value in event) and gates.members(table, event) == set()]
     check('unclaimed by lines: ' + label, len(in_none), unclaimed)
-    sheet = gates.gatesheet(table + tabs('events', *lines)).split(b'\n')
+    sheet = gates.gatesheet(table + tabs('events', columns_of(table), *lines)).split(b'\n')
     check('unclaimed on a sheet: ' + label, sheet[-5:-2], tabs(*['%s %d %d' % (name, number, number) for name, number in (
         ('taken', taken), ('unclaimed', unclaimed), ('spoilt', len(lines) - taken))]).split(b'\n')[:-1])
 
@@ -1278,24 +1295,195 @@ def unclaimed_events():
     check('unclaimed: no step', gates.count([1, 0], [1, 2, 70000]), (0, 0, 2, 1, zeros, 2))
 
     # On the sheet directly after taken, laid out alike (f2), each list and the sum, which is that of the joined lists.
-    sheets('unclaimed in each list', x + tabs('events', '5', '50', 'events', '60', '70', '70000', 'events', '1', 'events', 'events', '80'),
+    sheets('unclaimed in each list',
+           x + tabs('events', 'A', '5', '50', 'events', 'A', '60', '70', '70000', 'events', 'A', '1', 'events', 'A', 'events', 'A', '80'),
            'X 1 0 1 0 0 2 2 6', 'taken 2 2 1 0 1 6', 'unclaimed 1 2 0 0 1 4', 'spoilt 0 1 0 0 0 1', 'events 7')
-    sheets('unclaimed of the joined lists', x + tabs('events', '5', '50', '60', '70', '70000', '1', '80'),
+    sheets('unclaimed of the joined lists', x + tabs('events', 'A', '5', '50', '60', '70', '70000', '1', '80'),
            'X 2 2 2 6', 'taken 6 6', 'unclaimed 4 4', 'spoilt 1 1', 'events 7')
-    sheets('unclaimed, the lists exchanged', x + tabs('events', '80', 'events', 'events', '1', 'events', '60', '70', '70000', 'events', '5', '50'),
+    sheets('unclaimed, the lists exchanged',
+           x + tabs('events', 'A', '80', 'events', 'A', 'events', 'A', '1', 'events', 'A', '60', '70', '70000', 'events', 'A', '5', '50'),
            'X 0 0 1 0 1 2 2 6', 'taken 1 0 1 2 2 6', 'unclaimed 1 0 0 2 1 4', 'spoilt 0 0 0 1 0 1', 'events 7')
-    sheets('unclaimed without a region', head + tabs('events', '5', '50', 'events', '70000', '1'),
+    sheets('unclaimed without a region', head + tabs('events', 'A', '5', '50', 'events', 'A', '70000', '1'),
            'taken 2 1 3', 'unclaimed 2 1 3', 'spoilt 0 1 1', 'events 4')
-    sheets('unclaimed and a share', three + tabs('events', '0', '5', '25', 'events', '35', '26', '27'),
+    sheets('unclaimed and a share', three + tabs('events', 'A', '0', '5', '25', 'events', 'A', '35', '26', '27'),
            'X 2 0 2 2 6', 'Y 1 0 1 1 6', 'Z 0 1 1 1 6', 'taken 3 3 6', 'unclaimed 1 2 3', 'spoilt 0 0 0', 'events 6')
-    sheets('a region called unclaimed', tabs('dims A', 'rect unclaimed - A 0 10', 'events', '5', '50', '60', 'events', '6'),
+    sheets('a region called unclaimed', tabs('dims A', 'rect unclaimed - A 0 10', 'events', 'A', '5', '50', '60', 'events', 'A', '6'),
            'unclaimed 1 1 2 2 4', 'taken 3 1 4', 'unclaimed 2 0 2', 'spoilt 0 0 0', 'events 4')
-    sheets('unclaimed: refused lists', x + tabs('events', '50', 'events', '60', 'x'), 'refused 23 7')
-    sheets('unclaimed: a refused table', tabs('dims A', 'rect X - A 0 0', 'events', '50'), 'refused 10 2')
+    sheets('unclaimed: refused lists', x + tabs('events', 'A', '50', 'events', 'A', '60', 'x'), 'refused 23 9')
+    sheets('unclaimed: a refused table', tabs('dims A', 'rect X - A 0 0', 'events', 'A', '50'), 'refused 10 2')
 
     # gatecount prints what it printed (f1).
-    prints('gatecount tells of no unclaimed', x + tabs('events', '5', '50', '70000'), 'X 1', 'taken 2', 'spoilt 1')
-    prints('nor without a region', head + tabs('events', '5', '70000'), 'taken 1', 'spoilt 1')
+    prints('gatecount tells of no unclaimed', x + tabs('events', 'A', '5', '50', '70000'), 'X 1', 'taken 2', 'spoilt 1')
+    prints('nor without a region', head + tabs('events', 'A', '5', '70000'), 'taken 1', 'spoilt 1')
+
+
+# ---------------------------------------------------------------- 02 g: column lines
+
+def both(label, data, *lines):
+    """Both programs print the same refusal."""
+    prints(label, data, *lines)
+    sheets(label + ', on a sheet', data, *lines)
+
+
+def column_line(label, names, line, place):
+    """A column line, where tabs are tabs, below a head with these names: the place of 31, or None where it is right.
+
+    With good events behind it, with bad ones, with none and, unless it is right, without its LF; then as the last of three lists.
+    """
+    names = names.replace(' ', '\t').encode()
+    n, line = names.count(b'\t') + 1, line if isinstance(line, bytes) else line.encode()
+    head, event, opening = b'dims\t' + names + b'\n', b'\t'.join([b'5'] * n) + b'\n', b'events\n' + names + b'\n'
+    check('columns, ' + label, gates.wrong_column(line + b'\n', names.split(b'\t')), place)
+    data = head + b'events\n' + line
+    if place is None:
+        prints('columns: ' + label, data + b'\n' + event, 'taken 1', 'spoilt 0')
+        prints('columns, no event: ' + label, data + b'\n', 'taken 0', 'spoilt 0')
+        sheets('columns of three lists: ' + label, head + 2 * (opening + event) + b'events\n' + line + b'\n',
+               'taken 1 1 0 2', 'unclaimed 1 1 0 2', 'spoilt 0 0 0 0', 'events 2')
+        both('columns, a bad event: ' + label, data + b'\n' + event + b'x\n', 'refused 23 5')
+        both('columns without LF: ' + label, data, 'refused 23 3')
+        return
+    told = 'refused 31 %d' % place
+    for what, behind in (('', b'\n' + event), (', a bad event', b'\nx\n'), (', no event', b'\n'), (' without LF', b''), (', events open', b'\nevents'),
+                         (', the right line behind', b'\n' + names + b'\n' + event), (', events again', b'\nevents\n' + line + b'\n')):
+        both('columns%s: %s' % (what, label), data + behind, told)
+    sheets('columns of the third list: ' + label, head + 2 * (opening + event) + b'events\n' + line + b'\n' + event, told)
+    sheets('columns of the second list, the first bad: ' + label, head + opening + b'x\nevents\n' + line + b'\n' + opening, told)
+
+
+def column_heads():
+    table = tabs('dims A B', 'rect X - A 0 10')     # `events` is line 3, its columns line 4
+    head, right = tabs('dims A'), ('events', 'A B')
+
+    # "Names equal to the head, in the same order, are taken"; 01's case has the line too.
+    prints('the right columns', table + tabs(*right, '1 2', '20 2'), 'X 1', 'taken 2', 'spoilt 0')
+    sheets('the right columns', table + tabs(*right, '1 2', '20 2'), 'X 1 1 1 2', 'taken 2 2', 'unclaimed 1 1', 'spoilt 0 0', 'events 2')
+    prints('columns in the order of the head', tabs('dims B A', 'rect X - A 0 10', 'events', 'B A', '20 2', '2 20'), 'X 1', 'taken 2', 'spoilt 0')
+    both('01\'s case without its columns', tabs(*EXAMPLE, 'events', '600 200', '400 375'), 'refused 31 0')
+    both('01\'s case with its columns exchanged', tabs(*EXAMPLE, 'events', 'SSC FSC', '200 600'), 'refused 31 0')
+    both('01\'s case with one of its columns', tabs(*EXAMPLE, 'events', 'FSC', '600 200'), 'refused 31 1')
+
+    # "all else is refused": 31 at the first differing field, from 0 (g6); lines of unequal length at the end of the shorter (g5).
+    for names in ('A', 'A B', 'A B C D E F G H', 'events', 'events A', 'dims', 'ABCDEFGHIJKLMNOP taken', 'a A', 'FSC-A FSC-H FSC_H'):
+        column_line('right, ' + names, names, names.replace(' ', '\t'), None)
+    for label, names, line, place in (
+            ('the shorter', 'A B', 'A', 1), ('the longer', 'A B', 'A\tB\tC', 2), ('a tab at the end', 'A B', 'A\tB\t', 2), ('CR', 'A B', 'A\tB\r', 1),
+            ('CR, one name', 'A', 'A\r', 0), ('CR after the first name', 'A B', 'A\r\tB', 0), ('empty', 'A B', '', 0), ('empty, one name', 'A', '', 0),
+            ('exchanged', 'A B', 'B\tA', 0), ('the last two exchanged', 'A B C', 'A\tC\tB', 1), ('the names turned round', 'A B C', 'B\tC\tA', 0),
+            ('another first name', 'A B', 'C\tB', 0), ('another last name', 'A B', 'A\tC', 1), ('two others', 'A B C D', 'A\tX\tC\tY', 1),
+            ('a name twice', 'A B', 'A\tA', 1), ('another twice', 'A B', 'B\tB', 0), ('all twice', 'A B', 'A\tB\tA\tB', 2), ('one name twice', 'A', 'A\tA', 1),
+            ('one more and the first wrong', 'A B', 'X\tB\tC', 0), ('one less and the first wrong', 'A B C', 'X\tB', 0), ('the second alone', 'A B', 'B', 0),
+            ('the middle left out', 'A B C', 'A\tC', 1), ('the last left out', 'A B C', 'A\tB', 2), ('all but one left out', 'A B C', 'A', 1),
+            ('lower case', 'A B', 'a\tb', 0), ('lower case, the last', 'A B', 'A\tb', 1), ('upper case', 'a b', 'a\tB', 1),
+            ('a tab before', 'A B', '\tA\tB', 0), ('two tabs between', 'A B', 'A\t\tB', 1), ('a space between', 'A B', 'A B', 0),
+            ('a space before', 'A B', ' A\tB', 0),
+            ('a space behind', 'A B', 'A\tB ', 1), ('a comma', 'A B', 'A,B', 0), ('a NUL', 'A', 'A\0', 0), ('a byte that is no letter', 'A', b'\xff', 0),
+            ('a longer name', 'A B', 'AA\tB', 0), ('a shorter name', 'FSC SSC', 'FSC\tSS', 1),
+            ('one letter of sixteen', 'ABCDEFGHIJKLMNOP', 'ABCDEFGHIJKLMNOQ', 0), ('an event line (g4)', 'A B', '5\t5', 0),
+            ('an event line, one name', 'A', '5', 0), ('`events` (g4)', 'A B', 'events', 0),
+            ('`events` below a head that begins so', 'events A', 'events', 1), ('the head line', 'A B', 'dims\tA\tB', 0), ('a tab alone', 'A', '\t', 0),
+            ('a tab alone, two names', 'A B', '\t', 0), ('a tab behind the first', 'A B', 'A\t', 1), ('a table line', 'A', 'rect\tY\t-\tA\t0\t1', 0),
+            ('eight names, the last wrong', 'A B C D E F G H', 'A\tB\tC\tD\tE\tF\tG\tX', 7), ('seven of eight', 'A B C D E F G H', 'A\tB\tC\tD\tE\tF\tG', 7),
+            ('nine for eight', 'A B C D E F G H', 'A\tB\tC\tD\tE\tF\tG\tH\tI', 8), ('a mark', 'A', 'A:single', 0), ('a minus', 'A', '-', 0),
+            ('256 fields more', 'A', 'A' + '\t' * 256, 1), ('`Events` for `events`', 'events', 'Events', 0), ('a number for `events`', 'events', '5', 0),
+            ('`events` twice', 'events', 'events\tevents', 1)):
+        column_line(label, names, line, place)
+
+    # The line directly after an `events` that opens a list is always read as this one (g4): also `events`, which opens none then.
+    both('events for columns, the right line behind', table + tabs('events', 'events', 'A B', '1 2'), 'refused 31 0')
+    both('events for columns, again and again', table + tabs('events', 'events', 'events', 'events'), 'refused 31 0')
+    called = tabs('dims events', 'rect X - events 0 10')
+    prints('columns called events', called + tabs('events', 'events', '5', '50'), 'X 1', 'taken 2', 'spoilt 0')
+    both('columns called events, left out', called + tabs('events', '5'), 'refused 31 0')
+    both('columns called events, missing', called + tabs('events'), 'refused 31 0')
+    both('columns called events, open', called + b'events\nevents', 'refused 23 4')
+    prints('columns called events, and once more', called + tabs('events', 'events', 'events', '5'), 'refused 23 5')
+    sheets('columns called events, and once more', called + tabs('events', 'events', 'events', '5'), 'refused 31 0')
+    sheets('columns called events, and once more at the end', called + tabs('events', 'events', 'events'), 'refused 31 0')
+    both('columns called events, and once more without LF', called + tabs('events', 'events') + b'events', 'refused 23 5')
+    sheets('columns called events, two lists', called + tabs('events', 'events', 'events', 'events', '5'), 'X 0 1 1 1 1', 'taken 0 1 1',
+           'unclaimed 0 0 0', 'spoilt 0 0 0', 'events 1')
+    sheets('columns called events, three lists', called + tabs('events', 'events', '5', '50', 'events', 'events', 'events', 'events', '7'), 'X 1 0 1 2 2 3',
+           'taken 2 0 1 3', 'unclaimed 1 0 0 1', 'spoilt 0 0 0 0', 'events 3')
+    sheets('columns called events, the second list open', called + tabs('events', 'events', '5') + b'events\nevents', 'refused 23 7')
+
+    # "missing at the input's end it differs at 0" (g2), at the end of a later list too.
+    both('columns missing', table + tabs('events'), 'refused 31 0')
+    both('columns missing below a head alone', head + tabs('events'), 'refused 31 0')
+    sheets('columns of the second list missing', table + tabs(*right, '1 2', 'events'), 'refused 31 0')
+    sheets('columns of the second list missing, the first list bad', table + tabs(*right, 'x', 'events'), 'refused 31 0')
+    sheets('columns of the second list missing, those of the first wrong', table + tabs('events', 'A', 'events'), 'refused 31 1')
+    prints('gatecount asks for no columns of a second list', table + tabs(*right, '1 2', 'events'), 'refused 23 6')
+
+    # "a right one without LF is 23" (g3), at its line; a wrong one is 31.
+    both('columns open', table + b'events\nA\tB', 'refused 23 4')
+    both('columns open, wrong', table + b'events\nA\tC', 'refused 31 1')
+    both('columns open, the first of two', table + b'events\nA', 'refused 31 1')
+    both('columns open, a tab more', table + b'events\nA\tB\t', 'refused 31 2')
+    both('columns open, CR for LF', table + b'events\nA\tB\r', 'refused 31 1')
+    sheets('columns of the second list open', table + tabs(*right, '1 2') + b'events\nA\tB', 'refused 23 7')
+    sheets('columns of the second list open, wrong', table + tabs(*right, '1 2') + b'events\nA\tC', 'refused 31 1')
+    sheets('columns of the second list open, the first list bad', table + tabs(*right, 'x') + b'events\nA\tB', 'refused 23 5')
+    sheets('columns of the second list open and wrong, the first list bad', table + tabs(*right, 'x') + b'events\nB', 'refused 31 0')
+    sheets('columns of the second list open, those of the first wrong', table + tabs('events', 'A C', '1 2') + b'events\nA\tB', 'refused 31 1')
+
+    # "`events` itself without LF still too" (g2): 23 at its line; a wrong line of an earlier list is 31 all the same.
+    both('events open', table + b'events', 'refused 23 3')
+    both('events open behind a list', table + tabs(*right, '1 2') + b'events', 'refused 23 6')
+    both('events open behind an empty list', table + tabs(*right) + b'events', 'refused 23 5')
+    both('events open, the columns before wrong', table + tabs('events', 'B A', '1 2') + b'events', 'refused 31 0')
+    both('events open in the place of columns', table + b'events\nevents', 'refused 31 0')
+    sheets('events open behind two lists, the second wrong', table + tabs(*right, '1 2', 'events', 'A', '1 2') + b'events', 'refused 31 1')
+
+    # "of the first wrong line", in the input's order, whichever differs sooner.
+    sheets('two wrong lines', table + tabs('events', 'A C', '1 2', 'events', 'C B', '1 2'), 'refused 31 1')
+    sheets('two wrong lines, the other way', table + tabs('events', 'C B', '1 2', 'events', 'A C', '1 2'), 'refused 31 0')
+    sheets('wrong lines of the second list and the third', table + tabs(*right, 'events', 'A B C', 'events', '', '1 2'), 'refused 31 2')
+    sheets('a wrong line of the third list', table + tabs(*right, '1 2', *right, 'events', 'A', '1 2', *right), 'refused 31 1')
+    sheets('the last of many', head + tabs('events', 'A') * 300 + tabs('events', 'B'), 'refused 31 0')
+    sheets('the last of many has a field more', head + tabs('events', 'A', '5') * 300 + tabs('events', 'A A'), 'refused 31 1')
+    sheets('the last of 7,281', head + tabs('events', 'A') * 7280 + tabs('events', 'a'), 'refused 31 0')
+    sheets('the last of 7,281, open', head + tabs('events', 'A') * 7280 + b'events\nA', 'refused 23 14563')
+
+    # "after 18 and before 21" (g1, g10): before 23 of any list, behind each refusal of the table.
+    sheets('wrong columns of the third list, bad lines of the first', table + tabs(*right, 'x', *right, 'events', 'A'), 'refused 31 1')
+    sheets('wrong columns of the first list, bad lines of it', table + tabs('events', 'A B C', 'x', *right), 'refused 31 2')
+    both('a bad line below wrong columns', table + tabs('events', 'A C', 'x'), 'refused 31 1')
+    for what, given, line in (*REFUSED_TABLES, ('long table', head + b'x' * 32768 + b'\n', 'refused 1 0')):
+        both('table before columns: ' + what, given + tabs('events', 'nope', '1'), line)
+        both('table before missing columns: ' + what, given + tabs('events'), line)
+        both('table before open columns: ' + what, given + b'events\nnope', line)
+    both('wrong columns in 65,536 bytes', head + b'events\n' + b'A' * (65536 - 15) + b'\n', 'refused 31 0')
+    both('wrong columns in 65,537 bytes', head + b'events\n' + b'A' * (65537 - 15) + b'\n', 'refused 1 0')
+    sheets('columns missing at 65,536 bytes', head + tabs('events', 'A') + b'9' * (65536 - 24) + b'\n' + tabs('events'), 'refused 31 0')
+    sheets('columns missing at 65,537 bytes', head + tabs('events', 'A') + b'9' * (65537 - 24) + b'\n' + tabs('events'), 'refused 1 0')
+
+    # Without an `events` none is asked for (g7); a line of names in the table is a table line.
+    prints('no list, no columns', table, 'X 0', 'taken 0', 'spoilt 0')
+    sheets('no list, no columns', table, 'X 0 0 0', 'taken 0', 'unclaimed 0', 'spoilt 0', 'events 0')
+    both('columns without events', table + tabs('A B'), 'refused 4 3')
+    both('columns before events', table + tabs('A B', 'events', '1 2'), 'refused 4 3')
+
+    # In gatecount a second `events` opens no list and the line after it is no column line; in gatesheet it opens one (g8).
+    for what, behind, on_a_sheet in (('right', ('A B', '1 2'), None), ('wrong', ('B A', '1 2'), 'refused 31 0'), ('missing', (), 'refused 31 0'),
+                                     ('an event', ('1 2',), 'refused 31 0'), ('events', ('events',), 'refused 31 0'), ('shorter', ('A',), 'refused 31 1')):
+        data = table + tabs(*right, '1 2', 'events', *behind)
+        prints('a second events in gatecount, columns ' + what, data, 'refused 23 6')
+        sheets('a second events in gatesheet, columns ' + what, data, *([on_a_sheet] if on_a_sheet else [
+            'X 1 1 2 2 2', 'taken 1 1 2', 'unclaimed 0 0 0', 'spoilt 0 0 0', 'events 2']))
+    prints('a second events in gatecount, a bad line before', table + tabs(*right, 'x', 'events', 'B A'), 'refused 23 5')
+    prints('the right columns twice', table + tabs(*right, 'A B', '1 2'), 'refused 23 5')
+    sheets('the right columns twice', table + tabs(*right, 'A B', '1 2'), 'refused 23 5')
+
+    # A bad event line's number counts the column lines of all lists up to it.
+    both('a bad line below the columns', table + tabs(*right, 'x'), 'refused 23 5')
+    both('an event of one value', table + tabs(*right, '1 2', '1'), 'refused 23 6')
+    sheets('a bad line of the third list', table + tabs(*right, '1 2', *right, *right, '1 2', 'x'), 'refused 23 11')
+    both('an open event', table + tabs(*right) + b'1\t2', 'refused 23 5')
+
+    # Counting by a plan knows no names (g9): the words of a plan are as before, whatever the names.
+    check('no word for the columns', gates.compile_table(tabs('dims A B'), 4096)[2], gates.compile_table(tabs('dims FSC SSC'), 4096)[2])
+    check('counting by a plan', gates.count([2, 0], [1, 2, 3, 4])[:4], (0, 0, 2, 0))
 
 
 # ---------------------------------------------------------------- random tables
@@ -1546,7 +1734,7 @@ def accepted_tables(seed, count):
         cut = words[0] * rng.randint(0, len(events))
         check(where + 'unclaimed of joined lists', gates.count(words, flat[:cut])[5] + gates.count(words, flat[cut:])[5], unclaimed)
 
-        list_ = b'events\n' + generate.join(generate.event_lines(events))
+        list_ = generate.opened(table) + generate.join(generate.event_lines(events))
         printed = printed_by_name(gates.gatecount(data + list_))
         check(where + 'printed', printed, (counts, taken, len(events) - taken))
         lines = [table.head()] + [line.bytes() for line in table.lines]
@@ -1623,7 +1811,7 @@ def generated(seed, count):
             check('input %d (%s)' % (number, case.label), refusal in case.refusals and refusal, refusal)
         if case.place is not None:
             check('input %d (%s), place' % (number, case.label), int(fields[2]), case.place)
-    check('every refusal of the program was met', met, set(range(18)) | {23})
+    check('every refusal of the program was met', met, set(range(18)) | {23, 31})
 
 
 def generated_sheets(seed, count):
@@ -1643,18 +1831,25 @@ def generated_sheets(seed, count):
             check(what + ', place', int(lines[0][2]), case.place)
         table, lists = gates.part_lists(case.data)
         if refusal:
-            if refusal != 23 or len(lists) < 2:
+            if refusal not in (23, 31) or len(lists) < 2:
                 check(what + ', as gatecount', output, gates.gatecount(case.data))
+            elif refusal == 23:
+                check(what + ', a line of a list', lists[0][0] <= int(lines[0][2]) <= lists[-1][0] + 1 + len(lists[-1][3]), True)
             else:
-                check(what + ', a line of a list', lists[0][0] <= int(lines[0][2]) <= lists[-1][0] + len(lists[-1][2]), True)
+                alone = [gates.gatecount(table + b'events\n' + columns) for _, closed, columns, _ in lists if closed]
+                check(what + ', the first that is wrong alone', output, next((each for each in alone if each.startswith(b'refused\t31\t')), None))
+                met['wrong columns', 'of the first list' if alone[0] == output else 'of a later list'] += 1
+                met['wrong columns', 'of different places'] += len({each for each in alone if each.startswith(b'refused\t31\t')}) > 1
+                met['wrong columns', 'and a bad line before'] += any(gates.event_values(line, len(gates.read_table(table)[2])) is None
+                                                                     for _, _, _, each in lists[:alone.index(output)] for line in each)
             continue
         met['lists', min(len(lists), 3)] += 1
-        met['empty list'] += any(not each for _, _, each in lists)
+        met['empty list'] += any(not each for _, _, _, each in lists)
         numbers = [[int(field) for field in line[1:]] for line in lines[:-1]]
 
         def counted(*chosen):
-            some = [line for _, _, each in chosen for line in each]
-            return [int(line.split(b'\t')[1]) for line in gates.gatecount(table + b''.join([b'events\n'] * bool(chosen) + some)).split(b'\n')[:-1]]
+            some = [b'events\n' + columns for _, _, columns, _ in chosen[:1]] + [line for _, _, _, each in chosen for line in each]
+            return [int(line.split(b'\t')[1]) for line in gates.gatecount(table + b''.join(some)).split(b'\n')[:-1]]
 
         check(what + ', the lines behind those of the regions', [line[0] for line in lines[-5:-1]], [b'taken', b'unclaimed', b'spoilt', b'events'])
         both = numbers[:-3] + numbers[-2:-1]        # gatecount prints no unclaimed
@@ -1662,9 +1857,9 @@ def generated_sheets(seed, count):
         for column in range(0, len(lists), 1 + len(lists) // 6):
             check(what + ', list %d' % column, [row[column] for row in both], counted(lists[column]))
         head, table_gates = gates.read_table(table)[2:]
-        if sum(len(each) for _, _, each in lists) < 2000:
+        if sum(len(each) for _, _, _, each in lists) < 2000:
             members_of, left = gates.membership(table), []
-            for _, _, each in lists:
+            for _, _, _, each in lists:
                 events = [gates.event_values(line, len(head)) for line in each]
                 left.append(sum(1 for event in events if not gates.is_spoilt(event) and not members_of(event)))
             check(what + ', unclaimed', numbers[-3], left + [sum(left)])
@@ -1678,16 +1873,18 @@ def generated_sheets(seed, count):
         if not parents:
             check(what + ', no region', numbers[-3], numbers[-4])
             met['no region', 'in several lists' if sum(1 for number in numbers[-4][:-1] if number) > 1 else ''] += 1
-        check(what + ', lines of the lists', numbers[-1], [sum(len(each) for _, _, each in lists)])
+        check(what + ', lines of the lists', numbers[-1], [sum(len(each) for _, _, _, each in lists)])
         for row, parent in zip(numbers, parents):
             met['share', 'of a parent' if parent != b'-' else 'of the taken', 'in several lists' if len(lists) > 1 and 0 < row[-2] < row[-1] else ''] += 1
         if case.lines:
             for other in generate.orders(random.Random('%s sheet order %d' % (seed, number)), case.lines, 2):
                 check(what + ', another order', sorted(gates.gatesheet(other + case.list).split(b'\n')), sorted(output.split(b'\n')))
                 met['order'] += 1
-    check('every refusal of the sheet was met', {number for number in range(30) if met['refused', number]}, set(range(18)) | {23})
+    check('every refusal of the sheet was met', {number for number in range(40) if met['refused', number]}, set(range(18)) | {23, 31})
     for what in (('lists', 0), ('lists', 1), ('lists', 2), ('lists', 3), 'empty list', 'order', ('share', 'of a parent', 'in several lists'),
-                 ('share', 'of the taken', 'in several lists'), ('unclaimed', 'in several lists'), ('unclaimed', 'in one list'), ('unclaimed', 'in no list')):
+                 ('share', 'of the taken', 'in several lists'), ('unclaimed', 'in several lists'), ('unclaimed', 'in one list'), ('unclaimed', 'in no list'),
+                 ('wrong columns', 'of the first list'), ('wrong columns', 'of a later list'), ('wrong columns', 'of different places'),
+                 ('wrong columns', 'and a bad line before')):
         check('sheets with %s were met' % str(what), met[what] > count // 100, True)
     check('sheets with no region and events in several lists were met', met['no region', 'in several lists'] > count // 200, True)
 
@@ -1819,6 +2016,7 @@ def main():
     program()
     several_lists()
     unclaimed_events()
+    column_heads()
     outlines(options.seed)
     accepted_tables(options.seed, options.tables)
     circles(options.seed)
