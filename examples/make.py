@@ -8,7 +8,8 @@ The events are made up, not measured: clusters of cells and beads on a 16 bit sc
 from a fixed seed. Only random(), whole numbers and fractions are used, so every run writes the same bytes.
 `rim` has the same clusters on 256 channels, so that one unit can be seen in a picture, `clusters` on 1,024.
 `species` has two clusters of its own, which overlap in each pair of three dimensions and not in all three.
-`cruise` is an input of gatesheet, with several lists; all others are inputs of gatecount, with one.
+`cruise` is an input of gatesheet, with several lists; all others are inputs of gatecount, with one. The names of the head stand
+once more after each line `events`: the column line.
 """
 
 import itertools
@@ -280,12 +281,17 @@ def written(rows):
     return ''.join('\t'.join(map(str, row)) + '\n' for row in rows).encode()
 
 
+def opened(head):
+    """The two lines before the events of a list: `events` and the column line."""
+    return [['events'], head[1:]]
+
+
 def sheet_text(name):
     rows, lists = SHEETS[name]()
     where = columns(rows)
     rng = random.Random('gate counter: ' + name)
     for numbers, listed in lists:
-        rows += [['events']] + [[values[column] for column in where] for values in sample(rng, numbers)] + listed
+        rows += opened(rows[0]) + [[values[column] for column in where] for values in sample(rng, numbers)] + listed
     return written(rows)
 
 
@@ -299,7 +305,7 @@ def text(name):
         # One cell at most in a place, and none where an event is listed: on the rim are the listed ones only.
         places = dict.fromkeys(map(tuple, events))
         events = [place for place in places if place not in edge]
-    return written(lines + [['events']] + events + edge)
+    return written(lines + opened(lines[0]) + events + edge)
 
 
 def main():
