@@ -142,8 +142,8 @@ fn list_part(part: &[u8], headed: bool) -> &[u8]
     }
 }
 
-// The lowest bad line of an input, counted from 1 over all of it; 0 where there is none. It has one list, or several; a column line comes first in each, or in
-// none.
+// The lowest bad line of an input, counted from 1 over all of it; 0 where there is none. It has one list, or several. The first line behind the first `events`
+// is a column line (headed), or not; behind a further `events` always.
 pub fn ragged_line(input: &[u8], n: usize, several: bool, headed: bool) -> usize
     ensures { λ r. ⌜ r ≡ raggedLine several headed n (now (input .entry)) ⌝ }
 {

@@ -25,7 +25,7 @@ use Rattle.tables.proofs.Acceptance.{passed-accepted}
 use Rattle.events.specs.Parting.{tableLines, hasEvents, eventsEnded, tablePart, eventPart}
 use Rattle.events.specs.Listing.{list, ragged, badLine, columnLines, listPart, eventsOf}
 use Rattle.events.specs.Printing.{refusedLine, unlessRefused}
-use Rattle.events.proofs.AnswerLaws.{events-ragged, events-listed}
+use Rattle.events.proofs.AnswerLaws.{events-open, events-ragged, events-listed}
 use Rattle.events.proofs.ColumnLaws.{columns-not}
 use Rattle.events.proofs.EventTheorems.{values-complete}
 use Rattle.report.specs.Report.{tallyLines, printed, reportOf}
@@ -100,10 +100,19 @@ module _ (input line : List ℕ) (headed : columnLines false input ≡ line ∷ 
       unfolding printed
       report-wrong-columns wrong = report-printed input short ∙ rw (headed, accepted, wrong)
 
-      -- behind the right column line the lowest bad line is refused, by its number in the whole input
+      -- where it is right, the lowest bad line is refused, by its number in the whole input; the column line itself, where it has no LF
       pub report-bad-line : isRight (tablePart input) line ≡ true → (k : ℕ) → eventsOf true (length (dimensions (tablePart input))) input ≡ ragged k
           → (reportOf input ≡ refusedLine 23 k)
           × (k ≡ tableLines input + 1 + badLine false true (length (dimensions (tablePart input))) (eventPart input))
       unfolding printed
       report-bad-line right k bad =
           (report-printed input short ∙ rw (headed, bad, accepted, right), ragged-line (length (dimensions (tablePart input))) k bad)
+
+-- `events` without LF is refused at its line, and no column line is asked for
+pub report-open-events : (input : List ℕ) → length input ≤ 65536 → tableVerdict 4096 (tablePart input) ≡ passed
+    → hasEvents input ≡ true → eventsEnded input ≡ false → reportOf input ≡ refusedLine 23 (tableLines input + 1)
+unfolding printed
+report-open-events input short accepted there unended =
+    let none : (hasEvents input && eventsEnded input) ≡ false = rw (there, unended) in
+    report-printed input short
+    ∙ rw (accepted, columns-not false input none, events-open true (length (dimensions (tablePart input))) input there unended)

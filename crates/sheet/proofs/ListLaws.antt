@@ -1,16 +1,18 @@
 -- Laws of sums over lists, of a number of each list's tally, and of an input with one list.
-use mathlib.Core.Path.{_≡_, refl, ap, ap₂, _∙_}
+use mathlib.Core.Path.{_≡_, refl, sym, ap, ap₂, _∙_}
 use mathlib.Core.Bool.{Bool, true, false, cond}
 use mathlib.Core.Logic.{_⊎_, inl, inr}
 use mathlib.Core.List.{List, [], _∷_, _++_, map, flatMap, append-nil, List·Memᴰ·head as here, List·Memᴰ·tail as there}
-use Prim.Native.Nat.{ℕ, _%_, _≤_, _<_}
+use Prim.Native.Nat.{ℕ, _+_, _%_, _≤_, _<_}
 use native.Mathlib.Omega.{arith}
 use lib.IntN.{ℤ}
 use lib.ListN.{length, drop, length-map}
-use Rattle.text.specs.Bytes.{same}
-use Rattle.text.specs.Lines.{lines}
-use Rattle.text.proofs.TestLaws.{passed-or-failed}
-use Rattle.text.proofs.LinesLaws.{lines-end}
+use Rattle.text.specs.Bytes.{same, every}
+use Rattle.text.specs.Inner.Counts.{without}
+use Rattle.text.specs.Lines.{parts, lines, unlines, endsInLF}
+use Rattle.text.proofs.TestLaws.{and-left, and-right, passed-or-failed}
+use Rattle.text.proofs.TextTheorems.{unlines-lines, lines-without}
+use Rattle.text.proofs.LinesLaws.{lines-cut, lines-end}
 use Rattle.counter.specs.declared.Tally.{Tally}
 use Rattle.counter.specs.Counting.{noTally, countOf}
 use Rattle.tallies.specs.Sums.{together, total}
@@ -18,11 +20,12 @@ use Rattle.tallies.proofs.SumLaws.{none-count, together-count}
 use Rattle.tables.specs.Table.{_∈_, sumOf}
 use Rattle.tables.specs.Compile.{planOf}
 use Rattle.tables.proofs.SumLaws.{sum-same}
-use Rattle.events.specs.Parting.{tableEnd, hasEvents, eventPart}
-use Rattle.events.specs.Listing.{Line, columns, opening, event, readLines, badLine, raggedLine, columnLines, list, lineValues, values, listPart, eventsOf}
+use Rattle.tables.proofs.TextLaws.{part-first}
+use Rattle.events.specs.Parting.{tableEnd, hasEvents, eventsEnded, eventPart}
+use Rattle.events.specs.Listing.{Line, columns, opening, event, readLines, columnsRead, badLine, raggedLine, columnLines, list, lineValues, values, listPart, eventsOf}
 use Rattle.events.specs.Listing.{toFirst, partedLines, listLines, valueLists}
 use Rattle.events.proofs.PartingLaws.{isOpening, end-is}
-use Rattle.events.proofs.AnswerLaws.{list-lines, events-good}
+use Rattle.events.proofs.AnswerLaws.{unragged, behind-good, list-lines, events-good}
 use Rattle.events.proofs.EventTheorems.{inside, line-is}
 use Rattle.events.proofs.ColumnLaws.{pieces-lines}
 use Rattle.events.proofs.ListsLaws.{partedFrom, parted-some, opening-lists, lists-first}
@@ -134,6 +137,67 @@ read-alike false last (l ∷ ls) h = go (isOpening l) h (parted-some (readLines 
     go true k s t r = absurd (omega arith)
     go false k s t r = rw (r (omega (arith, to-first-length l (partedFrom false ls) t)))
 
+-- ---- the lists of an input are the lines behind `events`, parted
+
+lists-opened : (input : List ℕ) → hasEvents input ≡ true → listLines input ≡ partedFrom true (lines (eventPart input))
+unfolding eventPart
+lists-opened input h = lists-first input ∙ opening-lists input (tableEnd input) (inside input h) (line-is input h)
+
+-- ---- each list has one column line
+
+last-column : (headed : Bool) → length (columnsRead (readLines true headed ([] ∷ []))) + cond headed 0 1 ≡ 1
+unfolding same
+last-column true = refl
+last-column false = refl
+
+-- lines of which the last ends in LF, with the empty one behind it
+columns-each : (headed : Bool) (ls : List (List ℕ))
+    → length (columnsRead (readLines true headed (ls ++ ([] ∷ [])))) + cond headed 0 1 ≡ length (partedFrom headed ls)
+columns-each headed [] = last-column headed ∙ go headed
+  where
+    go : (b : Bool) → 1 ≡ length (partedFrom b [])
+    go true = refl
+    go false = refl
+columns-each true (l ∷ ls) = omega (arith, columns-each false ls)
+columns-each false (l ∷ ls) = go (isOpening l) (columns-each true ls) (columns-each false ls) (parted-some (readLines true false ls))
+  where
+    more : List (List ℕ)
+    more = ls ++ ([] ∷ [])
+
+    go : (b : Bool) → length (columnsRead (readLines true true more)) + 0 ≡ length (partedFrom true ls)
+        → length (columnsRead (readLines true false more)) + 1 ≡ length (partedFrom false ls) → 1 ≤ length (partedFrom false ls)
+        → length (columnsRead (cond b (opening ∷ readLines true true more) (event l ∷ readLines true false more))) + 1
+        ≡ length (partedLines (cond b (opening ∷ readLines true true ls) (event l ∷ readLines true false ls)))
+    go true e f s = omega arith
+    go false e f s = omega (arith, to-first-length l (partedFrom false ls) s)
+
+unlined-pieces : (ls : List (List ℕ)) → every (without 10) ls ≡ true → parts 10 ([] ∷ []) (unlines ls) ≡ ls ++ ([] ∷ [])
+unlined-pieces [] e = refl
+unlined-pieces (l ∷ ls) e =
+    part-first 10 ([] ∷ []) l (unlines ls) (and-left (without 10 l) (every (without 10) ls) e)
+    ∙ ap (λ (ps : List (List ℕ)). l ∷ ps) (unlined-pieces ls (and-right (without 10 l) (every (without 10) ls) e))
+
+ended-pieces : (s : List ℕ) → (lines s ≡ []) ⊎ (endsInLF s ≡ true) → parts 10 ([] ∷ []) s ≡ lines s ++ ([] ∷ [])
+ended-pieces s (inr e) = ap (parts 10 ([] ∷ [])) (sym (unlines-lines s e)) ∙ unlined-pieces (lines s) (lines-without s)
+ended-pieces [] (inl e) = rw e
+ended-pieces (x ∷ s) (inl e) = absurd (omega (arith, ap length (sym e ∙ lines-cut (x ∷ s) 0 (omega arith))))
+
+-- so of an input without a bad line
+pub lists-headed : (n : ℕ) (input : List ℕ) → raggedLine true true n input ≡ 0 → length (columnLines true input) ≡ length (listLines input)
+unfolding columnLines
+lists-headed n input good = go (unragged true true n input good)
+  where
+    go : (hasEvents input ≡ false) ⊎ ((hasEvents input ≡ true) × (eventsEnded input ≡ true) × (badLine true true n (eventPart input) ≡ 0))
+        → length (columnLines true input) ≡ length (listLines input)
+    go (inl h) =
+        let none : listLines input ≡ [] = lists-first input ∙ rw (lines-end input (tableEnd input) (omega (arith, end-is input h))) in
+        rw (h, none)
+    go (inr h) =
+        let pieces = ended-pieces (eventPart input) (behind-good true true n input good .1) in
+        let lists = lists-opened input (h .0) in
+        let each = columns-each true (lines (eventPart input)) in
+        rw (h .0, h .1, pieces, lists) (omega (arith, each))
+
 -- ---- an input without a further `events`
 
 module _ (input : List ℕ) (few : length (listLines input) ≤ 1) where
@@ -141,15 +205,11 @@ module _ (input : List ℕ) (few : length (listLines input) ≤ 1) where
   behind = lines (eventPart input)
 
   module _ (h : hasEvents input ≡ true) where
-    lists-are : listLines input ≡ partedFrom true behind
-    unfolding eventPart
-    lists-are = lists-first input ∙ opening-lists input (tableEnd input) (inside input h) (line-is input h)
-
     parted-once : length (partedFrom true behind) ≡ 1
-    parted-once = omega (arith, few, ap length lists-are, parted-some (readLines true true behind))
+    parted-once = omega (arith, few, ap length (lists-opened input h), parted-some (readLines true true behind))
 
     pub one-list-there : listLines input ≡ drop 1 behind ∷ []
-    one-list-there = lists-are ∙ parted-one true behind parted-once
+    one-list-there = lists-opened input h ∙ parted-one true behind parted-once
 
   -- the lowest bad line is that where one list is read
   bad-alike : (n : ℕ) → length (partedFrom true behind) ≡ 1 → badLine true true n (eventPart input) ≡ badLine false true n (eventPart input)

@@ -1,7 +1,7 @@
 -- What a sheet means to a reader: its events are those of its lists, its sums are those of one count over the joined lists, with one list it is what
 -- `gatecount` prints, and the order of the table's lines moves no number.
 use mathlib.Core.Path.{_≡_, refl, sym, ap, ap₂, _∙_}
-use mathlib.Core.Bool.{true, false}
+use mathlib.Core.Bool.{true, false, not}
 use mathlib.Core.Logic.{⊎-elim}
 use mathlib.Core.List.{List, [], _∷_, _++_, flatMap, append-assoc, append-nil, Permᴰ·refl}
 use mathlib.Core.List.{List·Memᴰ·head as here, List·Memᴰ·tail as there, List·Memᴰ·cases-cons, List·Memᴰ·not-nil}
@@ -10,11 +10,12 @@ use native.Mathlib.Omega.{arith}
 use native.Mathlib.Nat.{zero-mul, add-mul, div-add-mod', mul-div-cancel, mul-mod-left}
 use lib.Dec.{eqb}
 use lib.IntN.{ℤ}
-use lib.ListN.{length, take, length-append}
+use lib.ListN.{length, getD, take, length-append}
 use borrow.Author.Tests.{lt-ltb, le-ltb}
 use Rattle.plans.specs.Refusals.{passed}
 use Rattle.plans.specs.Form.{width}
-use Rattle.text.specs.Bytes.{bytes, every}
+use Rattle.text.specs.Bytes.{bytes, every, before}
+use Rattle.text.specs.Lines.{fields}
 use Rattle.counter.specs.declared.Tally.{Tally}
 use Rattle.counter.specs.Counting.{Counting, tallyOf, countOf}
 use Rattle.counter.proofs.CounterTheorems.{counts-all, taken-and-spoilt}
@@ -25,17 +26,17 @@ use Rattle.tables.specs.Table.{_∈_, numberOf, sumOf, nthRegion}
 use Rattle.tables.specs.Head.{dimensions, gateLines, gates, LineOrder, reordered}
 use Rattle.tables.specs.Refusals.{tableVerdict}
 use Rattle.tables.specs.Compile.{planOf}
-use Rattle.tables.specs.Columns.{columnsVerdict}
+use Rattle.tables.specs.Columns.{isRight, firstDiffering, columnsVerdict}
 use Rattle.tables.proofs.ListLaws.{every-at, map-from}
 use Rattle.tables.proofs.SumLaws.{sum-same, sum-add}
 use Rattle.tables.proofs.Acceptance.{passed-accepted}
 use Rattle.tables.proofs.ReorderLaws.{own-order}
-use Rattle.tables.proofs.ColumnTheorems.{verdict-in-any-order}
+use Rattle.tables.proofs.ColumnTheorems.{all-right, first-wrong, verdict-in-any-order}
 use Rattle.tables.proofs.CompileLaws.{plan-passes}
 use Rattle.tables.proofs.CountLaws.{plan-width, counted}
 use Rattle.events.specs.Parting.{tablePart}
 use Rattle.events.specs.Listing.{isEvent, raggedLine, columnLines, lineValues, listLines, valueLists}
-use Rattle.events.specs.Printing.{numbersLine, countLine, takenLine, spoiltLine}
+use Rattle.events.specs.Printing.{numbersLine, countLine, takenLine, spoiltLine, refusedLine}
 use Rattle.events.proofs.EventTheorems.{lines-values}
 use Rattle.events.proofs.AnswerLaws.{events-bad}
 use Rattle.events.proofs.ListsLaws.{lists-good}
@@ -158,6 +159,25 @@ module _ (input : List ℕ) where
         let line = raggedLine false true n input in
         let there : 0 < line = omega (arith, same) in
         rw (le-ltb 65536 (length input) short, accepted, same-columns input few, same, lt-ltb 0 line there, events-bad true n input there)
+
+-- ---- refusals of several lists
+
+module _ (input : List ℕ) (short : length input ≤ 65536) (accepted : tableVerdict 4096 (tablePart input) ≡ passed) where
+  -- where a column line is wrong, of whichever list, the first wrong one is refused, whatever the lines of events are
+  pub sheet-wrong-columns : every (isRight (tablePart input)) (columnLines true input) ≡ false
+      → sheetOf input
+      ≡ refusedLine 31 (firstDiffering (dimensions (tablePart input))
+      (fields (getD (columnLines true input) (before (λ line. not (isRight (tablePart input) line)) (columnLines true input)) [])))
+  unfolding sheetOf sheetPrinted
+  sheet-wrong-columns wrong = rw (le-ltb 65536 (length input) short, accepted, first-wrong (tablePart input) (columnLines true input) wrong)
+
+  -- where all are right, the lowest bad line over all lists
+  pub sheet-bad-line : every (isRight (tablePart input)) (columnLines true input) ≡ true → (line : ℕ)
+      → line ≡ raggedLine true true (length (dimensions (tablePart input))) input → 0 < line → sheetOf input ≡ refusedLine 23 line
+  unfolding sheetOf sheetPrinted
+  sheet-bad-line right line is some-line =
+      let passes = all-right (tablePart input) (columnLines true input) .1 right in
+      rw (le-ltb 65536 (length input) short, accepted, passes, ← is, lt-ltb 0 line some-line)
 
 -- ---- one list
 

@@ -5,6 +5,7 @@ use native.Mathlib.Omega.{arith}
 use borrow.Author.Tests.{not-true, not-false}
 use borrow.Author.Needs.{needs}
 use lib.ListN.{length}
+use Rattle.text.specs.Inner.Places.{lineFrom}
 use Rattle.text.proofs.LinesLaws.{find-from, found-inside}
 use Rattle.events.proofs.ListingLaws.{Read, read-none, read-more, bad-read, bad-found, bad-none, bad-open}
 use Rattle.events.proofs.listing.bad_line.Statement.{statement}
@@ -32,7 +33,7 @@ returns c =
     let test = line .before in
     let loop = test .before .loop in
     let a = test .before .before .before .args in
-    let bad = sym (bad-read (a .several) (loop .columns) (a .n) _)
+    let bad = sym (bad-read (a .several) (loop .columns) (a .n) (lineFrom (a .part .now) (loop .at)))
     ∙ rw (event .is-event .ensures, opening .opens .ensures, line .line-from .ensures) at (c .if1 .taken) in (
       bad-found (a .several) (a .headed) (a .n) (a .part .now) (loop .at) (loop .k) (loop .columns) (loop .inv) (test .loop-test .taken) bad,
       omega (arith, loop .inv .below),
@@ -61,7 +62,7 @@ loop-again c =
     let test = line .before in
     let loop = test .before .loop in
     let a = test .before .before .before .args in
-    let good = sym (bad-read (a .several) (loop .columns) (a .n) _)
+    let good = sym (bad-read (a .several) (loop .columns) (a .n) (lineFrom (a .part .now) (loop .at)))
     ∙ rw (event .is-event .ensures, opening .opens .ensures, line .line-from .ensures) at (c .before .if1 .left) in
     rw (opening .opens .ensures, line .line-from .ensures)
     (read-more (a .several) (a .headed) (a .n) (a .part .now) (loop .at) (loop .k) (loop .columns) (loop .inv) (test .loop-test .taken)
