@@ -1,4 +1,6 @@
 // Compiling a table into a lent slice.
+#![tactic(auto)]
+
 ghost use Rattle.std.specs.Prelude.{◌≡◌, ◌≤◌, ◌<◌, length, eqb};
 ghost use Rattle.plans.specs.Refusals.{passed};
 ghost use Rattle.text.specs.Output.{Writes};
@@ -26,7 +28,7 @@ use text::output::lesser;
 use writer::put_number;
 
 // Why a table is refused, with its line.
-#[derive(Drop)]
+#[derive(Clone, Copy)]
 pub enum Refusal {
     LongTable,
     OpenLine,
@@ -42,14 +44,14 @@ pub enum Refusal {
 }
 
 // Whether a table is accepted, or its refusal.
-#[derive(Drop)]
+#[derive(Clone, Copy)]
 pub enum Acceptance {
     Accepted,
     Refused(Refusal),
 }
 
 // What compiling answers: the words and regions written, or the refusal.
-#[derive(Drop)]
+#[derive(Clone, Copy)]
 pub enum Compiled {
     Written { words: usize, regions: usize },
     Refused(Refusal),

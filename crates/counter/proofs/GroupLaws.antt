@@ -88,7 +88,7 @@ group-event n events j g e h =
 -- an event that is taken has all values on the scale
 taken-values : (event : List ℤ) → taken event ≡ true → Taken event
 unfolding taken value_good
-taken-values event h = record { on_scale_lem = λ d l. on_scale_lem (word event d) (all-at (value_good event) (length event) h d l) }
+taken-values event h = record { on_scale = λ d l. on_scale_lem (word event d) (all-at (value_good event) (length event) h d l) }
 
 -- ---- the first events that pass a test
 

@@ -91,7 +91,7 @@ module _ (n k set : ℕ) (body : List ℤ) where
       let b = by_both 2 8 514 (length body) e in (
         plane-within (good 0 (omega arith)) (good 1 (omega arith)),
         omega arith,
-        record { three = simp length-drop (omega arith); even = simp length-drop (omega (arith, b.2)); on_scale_lem = at },
+        record { three = simp length-drop (omega arith); even = simp length-drop (omega (arith, b.2)); on_scale = at },
       )
     where
       at : (i : ℕ) → OnScale (get_or (drop 2 body) i (pos 0))

@@ -1,4 +1,6 @@
 // Counting events by a table in one call, and demand 3 for it.
+#![tactic(auto)]
+
 ghost use Rattle.std.specs.Prelude.{◌≡◌};
 ghost use Rattle.counter.specs.Counting.{no_tally};
 ghost use Rattle.tables.specs.TableCount.{count_table_of};
@@ -13,7 +15,7 @@ use gatefields::fields::name_count;
 use heads::{Columns, head_line, test_columns};
 
 // What counting by a table answers: the words and regions of the plan that was written and counted by, or one refusal.
-#[derive(Drop)]
+#[derive(Clone, Copy)]
 pub enum Outcome {
     Counted { words: usize, regions: usize },
     // 1 to 18
@@ -25,7 +27,7 @@ pub enum Outcome {
 }
 
 // The tally is all zeros where there is a refusal.
-#[derive(Drop)]
+#[derive(Clone, Copy)]
 pub struct TableCount {
     pub outcome: Outcome,
     pub tally: Tally,

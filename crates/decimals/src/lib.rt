@@ -1,4 +1,6 @@
 // Numbers with decimals: their form and what is kept of their value.
+#![tactic(auto)]
+
 ghost use Rattle.std.specs.Prelude.{◌≡◌, ◌++◌, min, get_or, take};
 ghost use Rattle.text.specs.Bytes.{bytes};
 ghost use Rattle.text.specs.Numbers.{digits_value};
@@ -12,7 +14,7 @@ use text::numbers::{
 };
 
 // What is read: no number, or its thousandths kept within ±(2^31 − 1).
-#[derive(Drop)]
+#[derive(Clone, Copy)]
 pub enum Decimal {
     Bad,
     Thousandths(i32),

@@ -13,7 +13,7 @@ use text::numbers::{Number, is_number, kept, read_number};
 use text::output::lesser;
 
 // What reading the events answers.
-#[derive(Drop)]
+#[derive(Clone, Copy)]
 pub enum Answer {
     // how many values there are
     Values(usize),

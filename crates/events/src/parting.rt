@@ -6,7 +6,7 @@ use text::lines::{find, line_from};
 use text::names::same;
 
 // Where the input is parted.
-#[derive(Drop)]
+#[derive(Clone, Copy)]
 pub struct Parted {
     // the end of the table part
     pub table: usize,
@@ -21,7 +21,7 @@ pub struct Parted {
 }
 
 // The line `events`: whether it is there, where it begins, and how many lines stand before it.
-#[derive(Drop)]
+#[derive(Clone, Copy)]
 struct Opening {
     found: bool,
     at: usize,

@@ -1,5 +1,7 @@
 // The C interface of the compiler. The answer is written whole into `out`.
 // `sets` (lib.Seq) stores the elements of a row one by one from an index on, as far as `out` goes.
+#![tactic(auto)]
+
 ghost use Rattle.std.specs.Prelude.{◌≡◌, []};
 ghost use Rattle.std.proofs.lemmas.List.Edits.{sets};
 ghost use Rattle.tables.specs.Compile.{compile_of};

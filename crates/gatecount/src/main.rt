@@ -1,4 +1,6 @@
 // Reads a table and its events from standard input and prints the count of each region, or the refusal.
+#![tactic(auto)]
+
 ghost use Rattle.std.specs.Prelude.{◌≡◌, length};
 
 use libc::{STDIN_FILENO, STDOUT_FILENO};

@@ -1,5 +1,7 @@
 // The C interface: judging one event. An archive of its own, so that the counting loop is the only caller of its body in the other.
 // `sets` (lib.Seq) stores the elements of a row one by one from an index on, as far as `out` goes.
+#![tactic(auto)]
+
 ghost use Rattle.std.specs.Prelude.{◌≡◌};
 ghost use Rattle.std.proofs.lemmas.List.Edits.{sets};
 ghost use Rattle.counter.specs.Judging.{judgement, judge_of};

@@ -1,4 +1,6 @@
 // Refusals 6 to 10 of a gate line: a rule for each field, and the least refusal that a field earns.
+#![tactic(auto)]
+
 ghost use Rattle.std.specs.Prelude.{◌≡◌, ◌+◌, ◌≤◌, min, drop};
 ghost use Rattle.text.specs.Lines.{fields};
 ghost use Rattle.gates.specs.Inner.Bounds.{Bound, DecimalBound};

@@ -1,4 +1,6 @@
 // Reads the text of a plan and its events from standard input and prints the count of each region by its number, or the refusal.
+#![tactic(auto)]
+
 ghost use Rattle.std.specs.Prelude.{◌≡◌, length};
 
 use libc::{STDIN_FILENO, STDOUT_FILENO};

@@ -1,4 +1,6 @@
 // Rows of bits: what each row reaches, and the next row whose bits are all in a set.
+#![tactic(auto)]
+
 ghost use Rattle.std.specs.Prelude.{◌≡◌, ℕ, min, length, get_or, cond};
 ghost use Rattle.std.specs.Int.Bits.{bit_or};
 ghost use Rattle.plans.specs.Bits.{has_bit};
@@ -10,7 +12,7 @@ ghost use Rattle.graph.specs.Inner.Rows.{bit_at, zero_rows, joined, is_subset, h
 use plans::bits::has_bit;
 
 // Row a has bit b: a refers to b, or reaches it.
-#[derive(Drop)]
+#[derive(Clone, Copy)]
 pub struct Rows {
     pub bits: [u64; 64],
 }

@@ -1,4 +1,6 @@
 // Line 1 of a table: refusal 3; and the column line of a list by it: refusal 31.
+#![tactic(auto)]
+
 ghost use Rattle.std.specs.Prelude.{◌≡◌, [], ◌∷◌, length, get_or, drop};
 ghost use Rattle.text.specs.Bytes.{every};
 ghost use Rattle.text.specs.Lines.{fields, lines};
@@ -65,7 +67,7 @@ pub fn head_good(text: &[u8]) -> bool
 }
 
 // What testing a column line answers.
-#[derive(Drop)]
+#[derive(Clone, Copy)]
 pub enum Columns {
     Right,
     // refusal 31 and the first field that differs

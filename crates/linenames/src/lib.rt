@@ -1,4 +1,6 @@
 // The names that gate lines give and refer to.
+#![tactic(auto)]
+
 ghost use Rattle.std.specs.Prelude.{◌≡◌, ◌≤◌, max};
 ghost use Rattle.text.specs.Lines.{fields};
 ghost use Rattle.linenames.specs.Inner.LineNames.{region_named, names_region, quad_count, quadrant_name, quadrant_named, gives_name, shares_name, new_quadrant, own_different, end_in, reference_end, has_reference, reference_at, refers_line};

@@ -1,4 +1,6 @@
 // The report of a plan: what `gateplan` prints of a table.
+#![tactic(auto)]
+
 ghost use Rattle.std.specs.Prelude.{◌≡◌, length};
 ghost use Rattle.text.specs.Output.{Writes};
 ghost use Rattle.planreport.specs.PlanReport.{plan_report_of};

@@ -1,4 +1,6 @@
 // The report of a whole input: what `gatecount` prints.
+#![tactic(auto)]
+
 ghost use Rattle.std.specs.Prelude.{◌≡◌, [], ◌∷◌, ◌≤◌, length, get_or};
 ghost use Rattle.text.specs.Output.{Writes};
 ghost use Rattle.gates.specs.Gate.{regions};

@@ -1,4 +1,6 @@
 // The gate lines of a table through the places where they begin, and the numbers of its regions.
+#![tactic(auto)]
+
 ghost use Rattle.std.specs.Prelude.{◌≡◌, cond, ◌+◌, min, length, get_or, replicate};
 ghost use Rattle.plans.specs.Bits.{with_bit};
 ghost use Rattle.text.specs.Inner.Places.{line_starts};
@@ -12,7 +14,7 @@ use plans::bits::with_bit;
 use text::lines::{index_lines, line_from};
 
 // The places where the lines of a text begin, the head first, then up to 65 gate lines; and how many lines there are.
-#[derive(Drop)]
+#[derive(Clone, Copy)]
 pub struct Starts {
     pub at: [usize; 66],
     pub lines: usize,

@@ -1,4 +1,6 @@
 // The report of a run: what `gaterun` prints of a plan's text and its events.
+#![tactic(auto)]
+
 ghost use Rattle.std.specs.Prelude.{◌≡◌, false, ◌≤◌, length};
 ghost use Rattle.text.specs.Output.{Writes};
 ghost use Rattle.plans.specs.Refusals.{passed};

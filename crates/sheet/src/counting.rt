@@ -18,7 +18,7 @@ use text::lines::find;
 use text::output::lesser;
 
 // How many lists there are, and the sum of their tallies.
-#[derive(Drop)]
+#[derive(Clone, Copy)]
 pub struct Counts {
     pub lists: usize,
     pub total: Tally,

@@ -1,4 +1,6 @@
 // The sheet of a whole input: what `gatesheet` prints.
+#![tactic(auto)]
+
 mod columns;
 mod counting;
 mod printing;

@@ -1,4 +1,6 @@
 // The step of a region of a table, written over the beginning of a lent rest, and the number of a region's parent.
+#![tactic(auto)]
+
 ghost use Rattle.std.specs.Prelude.{◌≡◌};
 ghost use Rattle.text.specs.Lines.{fields};
 ghost use Rattle.text.specs.Output.{Writes};

@@ -1,4 +1,6 @@
 // Refusals 1 to 16 of a table.
+#![tactic(auto)]
+
 ghost use Rattle.std.specs.Prelude.{◌≡◌, ◌≤◌};
 ghost use Rattle.plans.specs.Refusals.{Verdict};
 ghost use Rattle.gates.specs.LineRefusals.{line_refusal_number};
@@ -13,7 +15,7 @@ use heads::{head_good, head_line};
 use text::lines::{ends_in_lf, find, line_from};
 
 // What is refused of a text, with its line; Fine where none of 1 to 16 applies.
-#[derive(Drop)]
+#[derive(Clone, Copy)]
 pub enum Answer {
     Long,
     Unended,

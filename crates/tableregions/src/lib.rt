@@ -1,4 +1,6 @@
 // The regions of a table by number: where each stands, its name, and what it refers to.
+#![tactic(auto)]
+
 ghost use Rattle.std.specs.Prelude.{◌≡◌};
 ghost use Rattle.text.specs.Bounded.{tab};
 ghost use Rattle.tables.specs.Table.{nth_region};
@@ -11,7 +13,7 @@ use linenames::{has_reference, reference, reference_end};
 use resolve::{Starts, line_at, number_of, settle};
 
 // A region's gate line, and which of its regions it is.
-#[derive(Drop)]
+#[derive(Clone, Copy)]
 pub struct Located {
     pub gate: usize,
     pub quadrant: usize,

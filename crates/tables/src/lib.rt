@@ -1,1 +1,2 @@
 // Tables of gates.
+#![tactic(auto)]

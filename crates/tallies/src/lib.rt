@@ -1,4 +1,6 @@
 // Tallies added up.
+#![tactic(auto)]
+
 ghost use Rattle.std.specs.Prelude.{◌≡◌};
 ghost use Rattle.tallies.specs.Sums.{together, wrapped};
 

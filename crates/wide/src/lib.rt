@@ -1,5 +1,7 @@
 // Signed numbers of 128 bits in two's complement, for every argument: sums, differences and multiples modulo 2^128, exact products, the order.
 // Each function is a few instructions: the compiler makes one multiplication of each of `words::product_high` and `words::product_low`.
+#![tactic(auto)]
+
 mod words;
 
 ghost use Rattle.std.specs.Prelude.{◌≡◌, ◌+ℤ◌, ◌-ℤ◌, ◌*ℤ◌};
@@ -9,14 +11,14 @@ use crate::words::{bits_of, product_high, product_low, sign_turned, when};
 use std::num::{wrapping_add_u64, wrapping_sub_u64};
 
 // high · 2^64 + low, where high is read as a signed number.
-#[derive(Drop)]
+#[derive(Clone, Copy)]
 pub struct Wide {
     pub high: u64,
     pub low: u64,
 }
 
 // How a number compares with another.
-#[derive(Drop)]
+#[derive(Clone, Copy)]
 pub enum Order {
     Less,
     Equal,

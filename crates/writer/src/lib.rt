@@ -1,4 +1,6 @@
 // The step writer: each step is written over the beginning of a slice that is lent, as far as it goes.
+#![tactic(auto)]
+
 ghost use Rattle.std.specs.Prelude.{◌≡◌, set, drop};
 ghost use Rattle.text.specs.Bounded.{tab};
 ghost use Rattle.text.specs.Lines.{fields};

@@ -11,7 +11,7 @@ OnScale z = mag z < 65536
 pub record Vertices (v : List ℤ) : Type 0 where
   pub three : 6 ≤ length v
   pub even : length v % 2 ≡ 0
-  pub on_scale_lem : (k : ℕ) → OnScale (get_or v k (pos 0))
+  pub on_scale : (k : ℕ) → OnScale (get_or v k (pos 0))
 
 -- an ellipse's fields in their ranges: entries within ±`most`, D² from 1 to `far`
 pub record Fields (most far : ℕ) (m1 m2 c11 c12 c22 d2 : ℤ) : Type 0 where

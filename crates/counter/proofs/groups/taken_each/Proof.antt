@@ -78,7 +78,7 @@ loop-again c =
     let loop = in-loop.before.loop in
     let h = in-loop.loop-test.true in
     let p = (entry in-loop).requires.1 in
-    let flag = rw (event-is in-loop) at c.before.on_scale_lem.ensures in
+    let flag = rw (event-is in-loop) at c.before.on_scale.ensures in
     (search rules, first_next _ loop.e (omega arith) flag loop.invariant.1 c.settle.ensures)
 
 returns : tie.Need-returns invariant-loop decreases-loop

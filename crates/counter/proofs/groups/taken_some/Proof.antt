@@ -33,7 +33,7 @@ returns c =
     let entry = at-if1.before.before.before in
     let args = entry.args in
     let before = le_of_lt entry.requires.0 in
-    let flag = sym at-if1.before.on_scale_lem.ensures ∙ at-if1.if1.true in
+    let flag = sym at-if1.before.on_scale.ensures ∙ at-if1.if1.true in
     let each = all_taken args.n args.group.now args.from args.to refl entry.requires.2 flag in
     first-from-to _ args.from args.to before each entry.requires.3 c.from-to.ensures
 

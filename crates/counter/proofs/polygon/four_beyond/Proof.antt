@@ -49,7 +49,7 @@ shared-slice-copy-out-d c = search rules
 
 -- a height that is read fits
 height : (entry : tie.Start) (k : ℕ) → SFits w32 (get_or entry.args.v.now k (pos 0))
-height entry k = scale_fits (get_or entry.args.v.now k (pos 0)) (entry.requires.0.on_scale_lem k)
+height entry k = scale_fits (get_or entry.args.v.now k (pos 0)) (entry.requires.0.on_scale k)
 
 returns : tie.Need-returns
 unfolding four_beyond beyond

@@ -21,7 +21,7 @@ vs c =
 known : (c : tie.Start) → All w64 (vs c)
 known c =
     let a = c.args in
-    let p = c.requires.0.on_scale_lem in
+    let p = c.requires.0.on_scale in
     (in_mag 65536 _ (p a.i), (in_mag 65536 _ (p (a.i + 1)), (in_mag 65536 _ c.requires.2.0, (in_mag 65536 _ c.requires.2.1, tt))))
 
 abbrev Right : Ex

@@ -30,7 +30,7 @@ module _ (entry : tie.Start invariant-loop decreases-loop) where
   v = entry.args.v.now
 
   height : (k : ℕ) → SFits w32 (get_or v k (pos 0))
-  height k = scale_fits (get_or v k (pos 0)) (entry.pre.0.on_scale_lem k)
+  height k = scale_fits (get_or v k (pos 0)) (entry.pre.0.on_scale k)
 
   none : Apart v entry.args.y entry.args.i entry.args.i
   none = apart_none v entry.pre.0.even entry.args.y entry.args.i entry.pre.1 (let l = entry.pre.2 in omega arith)

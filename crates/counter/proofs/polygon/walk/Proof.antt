@@ -104,7 +104,7 @@ module _ (c : tie.After-offset-of2 invariant-loop decreases-loop) where
   next-seen = simp (to_z-of_z, entry.fits.x, entry.fits.y) at c.offset-of2.ensures
 
   near : (k : ℕ) {offset : Offset} → SeenFrom x y (get_or v k (pos 0)) (get_or v (k + 1) (pos 0)) offset → Near offset
-  near k = let on = entry.pre.0.on_scale_lem in seen-near entry.pre.1.0 entry.pre.1.1 (on k) (on (k + 1))
+  near k = let on = entry.pre.0.on_scale in seen-near entry.pre.1.0 entry.pre.1.1 (on k) (on (k + 1))
 
 past-edge-requires : tie.Need-past-edge-requires invariant-loop decreases-loop
 past-edge-requires c κs =

@@ -14,7 +14,7 @@ decimal-ellipse-position-requires c κs =
     let plane = entry.args.plane in
     let within = entry.requires.1 in
     fields-kept tt tt entry.requires.2 entry.args.event.now plane.x plane.y within.x_within within.y_within
-    after-x.decimal-ellipse-position-arg.given after-y.decimal-ellipse-position-arg2.given entry.requires.0.on_scale_lem
+    after-x.decimal-ellipse-position-arg.given after-y.decimal-ellipse-position-arg2.given entry.requires.0.on_scale
 
 returns : tie.Need-returns
 returns c =

@@ -15,7 +15,7 @@ ellipsoid-position-requires c κs =
     let space = entry.args.space in
     let within = entry.requires.1 in
     solid_kept entry.requires.2 entry.args.event.now space.x space.y space.z within.x_within within.y_within within.z_within
-    after-x.ellipsoid-position-arg.given after-y.ellipsoid-position-arg2.given after-z.ellipsoid-position-arg3.given entry.requires.0.on_scale_lem
+    after-x.ellipsoid-position-arg.given after-y.ellipsoid-position-arg2.given after-z.ellipsoid-position-arg3.given entry.requires.0.on_scale
 
 returns : tie.Need-returns
 returns c =

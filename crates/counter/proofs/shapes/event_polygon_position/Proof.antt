@@ -18,7 +18,7 @@ polygon-position-requires c κs =
       read_word e x pre.1.x_within c.before.polygon-position-arg2.given,
       read_word e y pre.1.y_within c.polygon-position-arg3.given,
     )
-    (pre.3, (pre.0.on_scale_lem x pre.1.x_within, pre.0.on_scale_lem y pre.1.y_within))
+    (pre.3, (pre.0.on_scale x pre.1.x_within, pre.0.on_scale y pre.1.y_within))
 
 returns : tie.Need-returns
 returns c =
