@@ -1,0 +1,129 @@
+-- `ellipse_position` meets its contract: every part of the two sides is below 2^62.
+use mathlib.Core.Path.{sym, ap₂, ◌∙◌}
+use mathlib.Core.List.{List, [], ◌∷◌}
+use lib.IntN.{ℤ, ◌-ℤ◌, ◌*ℤ◌}
+use lib.Signed.{lt_z}
+use mir.Syntax.{w64}
+use Rattle.integers.specs.Inner.Expressions.{Ex, var, lit, ◌⊕◌, ◌⊖◌, ◌⊗◌}
+use Rattle.integers.specs.Inner.Machine.{Var, short, All, Needs}
+use Rattle.integers.proofs.Bounds.{in_mag, in_of-positive}
+use Rattle.integers.proofs.Overflow.{zneeds, zgives}
+use Rattle.counter.specs.Ellipse.{form, determinant}
+use Rattle.counter.specs.Positions.{ellipse_position}
+use Rattle.counter.proofs.PositionLaws.{sides_less, sides_more, sides_equal}
+use Rattle.counter.proofs.ellipse.ellipse_position.Goals as goal
+
+-- the variables, that each is within its bound, and the two sides
+    let a = c.args in
+    short 65536 a.m1 ∷ short 65536 a.m2 ∷ short 16777216 a.c11 ∷ short 16777216 a.c12 ∷ short 16777216 a.c22 ∷ short 4096 a.d2
+    ∷ short 65536 a.x ∷ short 65536 a.y ∷ []
+
+known : (c : goal.Start) → All w64 c
+known c = search (in_mag, in_of-positive)
+
+abbrev dx : Ex
+dx = var 6 ⊖ var 0
+
+abbrev dy : Ex
+dy = var 7 ⊖ var 1
+
+abbrev L : Ex
+L = var 4 ⊗ (dx ⊗ dx) ⊖ lit 2 ⊗ (var 3 ⊗ (dx ⊗ dy)) ⊕ var 2 ⊗ (dy ⊗ dy)
+
+abbrev R : Ex
+R = var 5 ⊗ (var 2 ⊗ var 4 ⊖ var 3 ⊗ var 3)
+
+asks : (c : goal.Start) → Needs w64 c L × Needs w64 c R
+asks c = (zneeds w64 c (known c) L tt, zneeds w64 c (known c) R tt)
+
+pub overflow_cast-dx : goal.overflow_cast-dx
+overflow_cast-dx c = search (asks c)
+
+pub overflow_cast-dx-2 : goal.overflow_cast-dx-2
+overflow_cast-dx-2 c = search (asks c)
+
+pub overflow_sub-dx : goal.overflow_sub-dx
+overflow_sub-dx c = search (asks c)
+
+pub overflow_cast-dy : goal.overflow_cast-dy
+overflow_cast-dy c = search (asks c)
+
+pub overflow_cast-dy-2 : goal.overflow_cast-dy-2
+overflow_cast-dy-2 c = search (asks c)
+
+pub overflow_sub-dy : goal.overflow_sub-dy
+overflow_sub-dy c = search (asks c)
+
+pub overflow_cast-p : goal.overflow_cast-p
+overflow_cast-p c = search (asks c)
+
+pub overflow_cast-q : goal.overflow_cast-q
+overflow_cast-q c = search (asks c)
+
+pub overflow_cast-r : goal.overflow_cast-r
+overflow_cast-r c = search (asks c)
+
+pub overflow_mul-form : goal.overflow_mul-form
+overflow_mul-form c = search (asks c)
+
+pub overflow_mul-form-2 : goal.overflow_mul-form-2
+overflow_mul-form-2 c = search (asks c)
+
+pub overflow_mul-form-3 : goal.overflow_mul-form-3
+overflow_mul-form-3 c = search (asks c)
+
+pub overflow_mul-form-4 : goal.overflow_mul-form-4
+overflow_mul-form-4 c = search (asks c)
+
+pub overflow_mul-form-5 : goal.overflow_mul-form-5
+overflow_mul-form-5 c = search (asks c)
+
+pub overflow_sub-form : goal.overflow_sub-form
+overflow_sub-form c = search (asks c)
+
+pub overflow_mul-form-6 : goal.overflow_mul-form-6
+overflow_mul-form-6 c = search (asks c)
+
+pub overflow_mul-form-7 : goal.overflow_mul-form-7
+overflow_mul-form-7 c = search (asks c)
+
+pub overflow_add-form : goal.overflow_add-form
+overflow_add-form c = search (asks c)
+
+pub overflow_cast-limit : goal.overflow_cast-limit
+overflow_cast-limit c = search (asks c)
+
+pub overflow_mul-limit : goal.overflow_mul-limit
+overflow_mul-limit c = search (asks c)
+
+pub overflow_mul-limit-2 : goal.overflow_mul-limit-2
+overflow_mul-limit-2 c = search (asks c)
+
+pub overflow_sub-limit : goal.overflow_sub-limit
+overflow_sub-limit c = search (asks c)
+
+pub overflow_mul-limit-3 : goal.overflow_mul-limit-3
+overflow_mul-limit-3 c = search (asks c)
+
+-- the two sides of the rule
+
+pub returns-then-form-limit : goal.returns-then-form-limit
+unfolding ellipse_position
+returns-then-form-limit c =
+    let l = zgives w64 c (known c.before) L tt in
+    let r = zgives w64 c (known c.before) R tt in
+    sides_less c c (sym (ap₂ lt_z l r) ∙ c.if-form-limit.true)
+
+pub returns-then-limit-form : goal.returns-then-limit-form
+unfolding ellipse_position
+returns-then-limit-form c =
+    let l = zgives w64 c (known c.before.before) L tt in
+    let r = zgives w64 c (known c.before.before) R tt in
+    sides_more c c (sym (ap₂ lt_z r l) ∙ c.if-limit-form.true)
+
+pub returns : goal.returns
+unfolding ellipse_position
+returns c =
+    let l = zgives w64 c (known c.before.before) L tt in
+    let r = zgives w64 c (known c.before.before) R tt in
+    sides_equal c c (sym (ap₂ lt_z l r) ∙ c.if-form-limit.false) (sym (ap₂ lt_z r l) ∙ c.if-limit-form.false)

@@ -1,0 +1,20 @@
+-- `bump`: the counts below r are the new ones, those from r on the old.
+use mathlib.Core.Path.{◌≡◌, refl, ap, ◌∙◌}
+use mathlib.Core.Bool.{cond}
+use mathlib.Core.List.{List, ◌++◌}
+use Prim.Native.Nat.{ℕ, ◌+◌, ◌-◌, ◌/◌, ◌%◌, ◌^◌, ◌<◌, ◌≤◌}
+use native.Mathlib.Omega.{arith}
+use lib.ListN.{get_or, drop, set}
+use Rattle.plans.specs.Bits.{has_bit}
+use Rattle.counter.specs.Counting.{list_from}
+use Rattle.counter.specs.Inner.Groups.{in_set}
+use Rattle.counter.specs.Inner.Raising.{bump_at}
+use Rattle.counter.proofs.TableLaws.{plus-odd, bump_read, bump_write, bump_done}
+use borrow.Author.Rules.{rules}
+use Rattle.counter.proofs.groups.bump.Given as goal
+
+abbrev pub invariant-loop-r : goal.invariant-loop-r
+invariant-loop-r l = (l.r ≤ l.initial.counts) × (l.counts ≡ list_from (bump_at l.sets (in_set l.e l.m)) 0 l.r ++ drop l.r l.sets)
+
+abbrev pub decreases-loop-r : goal.decreases-loop-r
+decreases-loop-r l = l.initial.counts - l.r

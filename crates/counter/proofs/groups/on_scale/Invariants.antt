@@ -1,0 +1,17 @@
+-- `on_scale`: good says whether the values before the i-th are on the scale.
+use mathlib.Core.Path.{◌≡◌, refl, ◌∙◌}
+use Prim.Native.Nat.{◌≤◌, ◌-◌}
+use native.Mathlib.Omega.{arith}
+use native.Mathlib.Numerals.{add-one}
+use lib.ListN.{length}
+use Rattle.plans.specs.Indices.{all}
+use Rattle.counter.specs.Judging.{value_good, taken}
+use Rattle.counter.proofs.ReadLaws.{value-more}
+use borrow.Author.Rules.{rules}
+use Rattle.counter.proofs.groups.on_scale.Given as goal
+
+abbrev pub invariant-loop-i : goal.invariant-loop-i
+invariant-loop-i l = (l.i ≤ length l.values) × (l.good ≡ all (value_good l.values) l.i)
+
+abbrev pub decreases-loop-i : goal.decreases-loop-i
+decreases-loop-i l = length l.values - l.i

@@ -1,0 +1,90 @@
+-- `past_edge`: on the line of the edge the two tests tell, and elsewhere its turn is added.
+use mathlib.Core.Path.{◌≡◌, sym, ◌∙◌}
+use mathlib.Core.Bool.{true, and_false}
+use borrow.Author.Tests.{eq-eqb, ne_eqb}
+use lib.Dec.{eqb}
+use lib.IntN.{pos, ◌+ℤ◌}
+use mir.Syntax.{w64}
+use mir.Val.{SFits, of_z}
+use mir.Facts.{to_z-of_z, sfits_lit}
+use Rattle.integers.specs.Equality.{eq_z}
+use Rattle.integers.proofs.Bounds.{fit, in_add, ok64}
+use Rattle.integers.proofs.Equality.{eqb-bits}
+use Rattle.counter.specs.Polygon.{between}
+use Rattle.counter.specs.Inner.Walks.{turn_for}
+use Rattle.counter.proofs.WalkLaws.{edge_carries, edge_on_line, edge_aside, turn_for_in}
+use borrow.Author.Rules.{rules}
+use Rattle.counter.proofs.polygon.past_edge.Goals as goal
+
+-- the test, asked of the bits
+test-is : (c : goal.After-side-s) → eqb (of_z w64 c.side-s.result) (of_z w64 (pos 0)) ≡ eq_z c.side-s.result (pos 0)
+test-is c = eqb-bits w64 c.side-s.result (pos 0) (ok64 c.side-s.result c.side-s.type_inv) (sfits_lit tt)
+
+-- the numbers of both ends fit
+module _ (entry : goal.Start) where
+  a-right : SFits w64 entry.args.a.right
+  a-right = fit tt entry.requires.0.right_in
+
+  b-right : SFits w64 entry.args.b.right
+  b-right = fit tt entry.pre.1.right_in
+
+  a-up : SFits w64 entry.args.a.up
+  a-up = fit tt entry.pre.0.up_in
+
+  b-up : SFits w64 entry.args.b.up
+  b-up = fit tt entry.pre.1.up_in
+
+-- what the calls answer, of the numbers themselves
+right_is : (c : goal.After-between)
+    → (let args = c.args in c.between.result ≡ between args.a.right args.b.right (pos 0))
+right_is c = simp (to_z-of_z, a-right c, b-right c) at c.between.ensures
+
+up_is : (c : goal.After-between-then-between)
+    → (let args = c.args in
+    c.between-then-between.result ≡ between args.a.up args.b.up (pos 0))
+up_is c =
+    simp (to_z-of_z, a-up c, b-up c) at c.between-then-between.ensures
+
+-- the point is on the edge's line
+line : (c : goal.Then-s-eq0) → eq_z c.side-s.result (pos 0) ≡ true
+line c = sym (test-is c.before) ∙ eq-eqb _ _ c.if-s-eq0.true
+
+pub returns-then-between-2 : goal.returns-then-between-2
+returns-then-between-2 c =
+    let args = c.args in
+    edge_carries args.a args.b args.sum c.side-s.result c.side-s.ensures (line c.before.before.before.before.before.before.before.before)
+    (sym (right_is c.before.before.before.before.before) ∙ c.if-between.true) (sym (up_is c.before) ∙ c.if-between-2.true)
+
+pub returns-else-between-2 : goal.returns-else-between-2
+returns-else-between-2 c =
+    let args = c.args in
+    simp (to_z-of_z, c.ranges.sum)
+    (edge_on_line args.a args.b args.sum c.side-s.result c.side-s.ensures (line c.before.before.before.before.before.before.before.before)
+    (rw (sym (up_is c.before) ∙ c.if-between-2.false) (and_false (between args.a.right args.b.right (pos 0)))))
+
+pub returns-else-between : goal.returns-else-between
+returns-else-between c =
+    let args = c.args in
+    simp (to_z-of_z, c.ranges.sum)
+    (edge_on_line args.a args.b args.sum c.side-s.result c.side-s.ensures (line c.before.before.before.before)
+    (rw (sym (right_is c.before) ∙ c.if-between.false)))
+
+-- what `turn` answers, of the side itself
+turn_is : (c : goal.After-turn)
+    → (let args = c.args in c.turn.result ≡ turn_for args.a.up args.b.up c.side-s.result)
+turn_is c = let s = c.side-s in simp (to_z-of_z, ok64 s.result s.type_inv) at c.turn.ensures
+
+sum_fits : (c : goal.After-turn) → SFits w64 (c.args.sum +ℤ c.turn.result)
+sum_fits c =
+    rw (turn_is c) (fit tt (in_add c.requires.2 (turn_for_in c.args.a.up c.args.b.up c.side-s.result)))
+
+pub overflow_add-result : goal.overflow_add-result
+overflow_add-result c = simp (to_z-of_z, c.ranges.sum, ok64 c.turn.result c.turn.type_inv) (sum_fits c)
+
+pub returns : goal.returns
+returns c =
+    let args = c.args in
+    let s = c.side-s in
+    simp (to_z-of_z, c.ranges.sum, ok64 c.turn.result c.turn.type_inv, sum_fits c)
+    (rw (turn_is c)
+    (edge_aside args.a args.b args.sum s.result s.ensures (sym (test-is c.before.before) ∙ ne_eqb _ _ c.if-s-eq0.false)))

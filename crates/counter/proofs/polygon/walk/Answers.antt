@@ -1,0 +1,143 @@
+-- `walk`: after each edge the sum is what `walked` holds, and the point is seen from the last vertex.
+use mathlib.Core.Path.{◌≡◌, refl, sym, ap, ◌∙◌}
+use mathlib.Core.List.{List}
+use Prim.Native.Nat.{ℕ, ◌+◌, ◌-◌, ◌/◌, ◌%◌, ◌<◌, ◌≤◌}
+use native.Mathlib.Omega.{arith}
+use lib.IntN.{ℤ, pos}
+use lib.ListN.{length, get_or}
+use mir.Syntax.{w32, w64}
+use mir.Val.{Fits, to_z}
+use mir.Facts.{to_z-of_z, Fits-of_z}
+use Rattle.integers.proofs.Bounds.{fit-below}
+use Rattle.counter.specs.Walk.{walked, past}
+use Rattle.counter.specs.Inner.Walks.{SeenFrom, Near, vertex_before}
+use Rattle.counter.specs.declared.polygon.Offset.{Offset}
+use Rattle.counter.specs.declared.polygon.Walked.TheVariants.{Summed}
+use Rattle.counter.proofs.WalkLaws.{edge_at, before_in, before-next, walked-edge, walked_in, walked-carried, seen-near}
+use borrow.Author.Rules.{rules}
+use Rattle.counter.proofs.polygon.walk.Invariants.{SeenBefore}
+use Rattle.counter.proofs.polygon.walk.Goals as goal
+
+pub vertex_before-requires : goal.vertex_before-requires
+vertex_before-requires c = let six = c.requires.0.three in (omega arith, c.requires.3.start_even)
+
+pub offset_of-last-requires : goal.offset_of-last-requires
+offset_of-last-requires c =
+    let l = c.requires.3.from in
+    let m = c.requires.3.to in
+    simp (to_z-of_z, c.ranges.x, c.ranges.y) (
+      c.requires.0,
+      rw c.vertex_before.ensures (before_in c.args.v.now c.args.start c.requires.0.three (omega arith)),
+      c.requires.1,
+    )
+
+pub loop-i-init : goal.loop-i-init
+loop-i-init c =
+    let f = c.ranges in
+    let stretch = c.requires.3 in
+    simp (to_z-of_z, f.x, f.y, f.before) (
+      c.requires.2,
+      rw c.vertex_before.ensures at (simp (to_z-of_z, f.x, f.y) at c.offset_of-last.ensures),
+      omega arith,
+      stretch.from,
+      stretch.start_even,
+      Fits-of_z f.before,
+    )
+
+-- in the loop: the vertex at i is there
+vertex-there : (c : goal.In-loop-i) → c.loop-i.i + 1 < length c.args.v.now
+vertex-there c =
+    let e = c.loop-i.invariant.4 in
+    let w = c.requires.0.even in
+    let t = c.requires.3.to in
+    let l = c.loop-i-test.true in
+    omega arith
+
+pub offset_of-next-requires : goal.offset_of-next-requires
+offset_of-next-requires c =
+    simp (to_z-of_z, c.ranges.x, c.ranges.y) (c.requires.0, vertex-there c, c.requires.1)
+
+-- ---- the point, seen from the ends of an edge
+module _ (c : goal.After-offset_of-next) where
+  abbrev v : List ℤ
+  v = c.args.v.now
+
+  abbrev x : ℤ
+  x = c.args.x
+
+  abbrev y : ℤ
+  y = c.args.y
+
+  abbrev i : ℕ
+  i = c.loop-i.i
+
+  before_it : walked v x y (i / 2) ≡ Summed (to_z w64 c.loop-i.sum-bits)
+  before_it = simp (to_z-of_z, c.fits.x, c.fits.y) at c.loop-i.inv.0
+
+  last-seen : SeenBefore v x y i c.loop-i.last
+  last-seen = simp (to_z-of_z, c.fits.x, c.fits.y) at c.loop-i.inv.1
+
+  next-seen : SeenFrom x y (get_or v i (pos 0)) (get_or v (i + 1) (pos 0)) c.offset_of-next.result
+  next-seen = simp (to_z-of_z, c.fits.x, c.fits.y) at c.offset_of-next.ensures
+
+  near : (k : ℕ) {offset : Offset} → SeenFrom x y (get_or v k (pos 0)) (get_or v (k + 1) (pos 0)) offset → Near offset
+  near k = let on = c.pre.0.on_scale in seen-near c.pre.1.0 c.pre.1.1 (on k) (on (k + 1))
+
+pub past_edge-requires : goal.past_edge-requires
+past_edge-requires c =
+    let l = vertex-there c.before in
+    let few = (walked_in (v c) (x c) (y c) (i c / 2) _ (before_it c)).abs in
+    (near c (vertex_before (length (v c)) (i c)) (last-seen c), near c (i c) (next-seen c), record { abs = omega arith })
+
+-- what the walk holds past the edge
+past-it : (c : goal.After-past_edge)
+    → (walked (v c) (x c) (y c) ((i c + 2) / 2) ≡ c.past_edge.result)
+past-it c =
+    let l = vertex-there c.before.before in
+    let e = edge_at (v c) (vertex_before (length (v c)) (i c)) (i c) in
+    walked-edge (v c) c.requires.0.even (x c) (y c) (i c) c.loop-i.invariant.4 (omega arith)
+    ∙ ap (past e (x c) (y c)) (before_it c) ∙ sym (c.past_edge.ensures.is (x c) (y c) _ _ _ _ (last-seen c) (next-seen c))
+
+-- carried stays carried to the end of the stretch
+pub returns-in-Carried : goal.returns-in-Carried
+returns-in-Carried c =
+    let stretch = c.requires.3 in
+    let l = c.loop-i-test.true in
+    let even = c.loop-i.invariant.4 in
+    let end_even = stretch.end_even in
+    let k = (i c + 2) / 2 in
+    let m = c.args.end / 2 - k in
+    let q : k + m ≡ c.args.end / 2 = omega arith in
+    sym (ap (walked (v c) (x c) (y c)) (sym q) ∙ walked-carried (v c) (x c) (y c) k m (past-it c.before.before ∙ c.in-Carried.is))
+
+pub overflow_add-i : goal.overflow_add-i
+overflow_add-i c = let l = vertex-there c.before.before.before.before.before in omega arith
+
+pub loop-i-smaller : goal.loop-i-smaller
+loop-i-smaller c = let l = c.loop-i-test.true in omega arith
+
+pub loop-i-preserved : goal.loop-i-preserved
+loop-i-preserved c =
+    let l = vertex-there c.before.before.before.before.before in
+    let t = c.loop-i-test.true in
+    let f = c.ranges in
+    let from = c.loop-i.invariant.2 in
+    let even = c.loop-i.invariant.4 in
+    let end_even = c.requires.3.end_even in
+    let holds = past-it c.before.before.before ∙ c.in-Summed.is in
+    let fits = fit-below {w = w64} (omega arith) (walked_in (v c) (x c) (y c) ((i c + 2) / 2) _ holds) in
+    simp (to_z-of_z, f.x, f.y, fits) (
+      holds,
+      rw (before-next (length (v c)) (i c) (i c + 2) refl) (next-seen c),
+      omega arith,
+      omega arith,
+      omega arith,
+      Fits-of_z fits,
+    )
+
+pub returns : goal.returns
+returns c =
+    let l = c.loop-i-test.false in
+    let u = c.loop-i.invariant.3 in
+    let q : c.args.end ≡ c.loop-i.i = omega arith in
+    rw q (sym (simp (to_z-of_z, c.ranges.x, c.ranges.y) c c.loop-i.invariant.0))

@@ -1,0 +1,30 @@
+-- `walk`: after each edge the sum is what `walked` holds, and the point is seen from the last vertex.
+use mathlib.Core.Path.{◌≡◌, refl, sym, ap, ◌∙◌}
+use mathlib.Core.List.{List}
+use Prim.Native.Nat.{ℕ, ◌+◌, ◌-◌, ◌/◌, ◌%◌, ◌<◌, ◌≤◌}
+use native.Mathlib.Omega.{arith}
+use lib.IntN.{ℤ, pos}
+use lib.ListN.{length, get_or}
+use mir.Syntax.{w32, w64}
+use mir.Val.{Fits, to_z}
+use mir.Facts.{to_z-of_z, Fits-of_z}
+use Rattle.integers.proofs.Bounds.{fit-below}
+use Rattle.counter.specs.Walk.{walked, past}
+use Rattle.counter.specs.Inner.Walks.{SeenFrom, Near, vertex_before}
+use Rattle.counter.specs.declared.polygon.Offset.{Offset}
+use Rattle.counter.specs.declared.polygon.Walked.TheVariants.{Summed}
+use Rattle.counter.proofs.WalkLaws.{edge_at, before_in, before-next, walked-edge, walked_in, walked-carried, seen-near}
+use borrow.Author.Rules.{rules}
+use Rattle.counter.proofs.polygon.walk.Given as goal
+
+-- the point, seen from the vertex before the one at i
+abbrev pub SeenBefore : List ℤ → ℤ → ℤ → ℕ → Offset → Type 0
+SeenBefore v x y i offset = SeenFrom x y (get_or v (vertex_before (length v) i) (pos 0)) (get_or v (vertex_before (length v) i + 1) (pos 0)) offset
+
+abbrev pub invariant-loop-i : goal.invariant-loop-i
+invariant-loop-i l =
+    (walked l.v (to_z w32 l.x) (to_z w32 l.y) (l.i / 2) ≡ Summed (to_z w64 l.sum)) × SeenBefore l.v (to_z w32 l.x) (to_z w32 l.y) l.i l.last
+    × (l.start ≤ l.i) × (l.i ≤ l.end) × (l.i % 2 ≡ 0) × Fits w64 l.sum
+
+abbrev pub decreases-loop-i : goal.decreases-loop-i
+decreases-loop-i l = l.end - l.i

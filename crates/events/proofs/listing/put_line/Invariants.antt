@@ -1,0 +1,19 @@
+-- `put_line`: the values of the first k fields are written over the beginning.
+use mathlib.Core.Path.{◌≡◌, refl, ◌∙◌, ap}
+use Prim.Native.Nat.{◌-◌, ◌≤◌}
+use native.Mathlib.Omega.{arith}
+use borrow.Author.Rules.{rules}
+use lib.Seq.{take_all}
+use lib.ListN.{length, take}
+use Rattle.text.specs.Output.{over}
+use Rattle.text.specs.Lines.{fields}
+use Rattle.text.proofs.OutputLaws.{over-length}
+use Rattle.events.specs.Inner.Answers.{line_kept}
+use Rattle.events.proofs.ListingLaws.{line-more, line_kept-length}
+use Rattle.events.proofs.listing.put_line.Given as goal
+
+abbrev pub invariant-loop-k : goal.invariant-loop-k
+invariant-loop-k l = (l.initial.rest ≡ length (fields l.n)) × (l.k ≤ l.initial.rest) × (l.rest ≡ over (take l.k (line_kept l.n)) l.line)
+
+abbrev pub decreases-loop-k : goal.decreases-loop-k
+decreases-loop-k l = l.initial.rest - l.k

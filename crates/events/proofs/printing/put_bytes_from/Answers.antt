@@ -1,0 +1,8 @@
+-- `put_bytes_from`: the rest from a on is lent.
+use borrow.Author.Rules.{rules}
+use Rattle.text.proofs.WritingLaws.{over-lent}
+use Rattle.events.proofs.printing.put_bytes_from.Goals as goal
+
+pub returns : goal.returns
+returns c =
+    (c.put_bytes.ensures.0, over-lent _ _ c.lesser-b.result c.lesser-b.ensures _ _ c.put_bytes.ensures.1)

@@ -1,0 +1,16 @@
+-- `put_counts`: the row holds the counts before the i-th.
+use mathlib.Core.Path.{◌≡◌, refl, ◌∙◌, ap}
+use mathlib.Core.List.{List}
+use Prim.Native.Nat.{ℕ, ◌+◌, ◌-◌, ◌≤◌}
+use native.Mathlib.Omega.{arith}
+use lib.ListN.{length, get_or, set, take}
+use lib.Seq.{sets, take_all}
+use Rattle.gatec.proofs.RowLaws.{counts-more}
+use borrow.Author.Rules.{rules}
+use Rattle.gatec.proofs.put_counts.Given as goal
+
+abbrev pub invariant-loop-i : goal.invariant-loop-i
+invariant-loop-i l = (l.i ≤ 64) × (l.out ≡ sets l.counts 4 (take l.i l.initial.out))
+
+abbrev pub decreases-loop-i : goal.decreases-loop-i
+decreases-loop-i l = 64 - l.i

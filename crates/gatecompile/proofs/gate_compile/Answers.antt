@@ -1,0 +1,19 @@
+-- `gate_compile`: the row of what compiling answered, and the slice.
+use mathlib.Core.Path.{◌≡◌, ◌∙◌, ap}
+use lib.Seq.{sets}
+use Rattle.tables.specs.Compile.{Compiling}
+use Rattle.gatecompile.specs.Answers.{compile_row}
+use Rattle.gatecompile.proofs.AnswerLaws.{row-alone, slice_is}
+use borrow.Author.Rules.{rules}
+use Rattle.gatecompile.proofs.gate_compile.Goals as goal
+
+pub returns : goal.returns
+returns c =
+    let o = c.args.out.now in
+    let plan = c.compile-c.new.1.0 in
+    let answer = c.compile-c.result in
+    let e = c.compile-c.ensures in (
+      rw (c.number.ensures, c.place.ensures, c.words.ensures, c.regions.ensures)
+          (ap (sets o 0) (row-alone answer plan ∙ ap compile_row e)),
+      slice_is answer plan ∙ ap (λ (x : Compiling). x.slice) e,
+    )

@@ -1,0 +1,8 @@
+-- `is_parent`: no parent, or a name.
+use Rattle.gates.specs.Kinds.{is_parent}
+use borrow.Author.Rules.{rules}
+use Rattle.gatefields.proofs.fields.is_parent.Goals as goal
+
+pub returns : goal.returns
+unfolding is_parent
+returns c = rw (c.is_none.ensures, c.is_name.ensures)

@@ -1,0 +1,6 @@
+-- `is_unknown`: the kind of the line's steps is not known.
+use borrow.Author.Rules.{rules}
+use Rattle.gatefields.proofs.fields.is_unknown.Goals as goal
+
+pub returns : goal.returns
+returns c = rw (c.is_Known.ensures, c.step_kind.ensures)

@@ -1,0 +1,14 @@
+-- `max_word`: `*` stands for the end of the scale.
+use mir.Syntax.{w32}
+use mir.ValLaws.{to_z-of_z}
+use Rattle.gates.specs.Encoding.{max_word}
+use borrow.Author.Rules.{rules}
+use Rattle.gatelines.proofs.words.max_word.Goals as goal
+
+pub returns-then-is_star : goal.returns-then-is_star
+unfolding max_word
+returns-then-is_star c = rw (← c.is_star.ensures, c.if-is_star.true)
+
+pub returns : goal.returns
+unfolding max_word
+returns c = rw (to_z-of_z w32 _ (record { sfits = c.value_of_lem.type_inv }), c.value_of_lem.ensures, ← c.is_star.ensures, c.if-is_star.false)

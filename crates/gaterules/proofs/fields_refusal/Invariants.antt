@@ -1,0 +1,17 @@
+-- `fields_refusal`: the least refusal of the fields below k.
+use borrow.Author.Rules.{rules}
+use native.Mathlib.Omega.{arith}
+use native.Mathlib.Numerals.{add-one}
+use mathlib.Core.Path.{◌≡◌, refl}
+use Prim.Native.Nat.{◌-◌, ◌≤◌}
+use lib.ListN.{drop}
+use Rattle.text.specs.Lines.{fields}
+use Rattle.text.specs.Bounded.{least}
+use Rattle.gates.specs.Rules.{field_refusal, fields_refusal, no_refusal}
+use Rattle.gaterules.proofs.fields_refusal.Given as goal
+
+abbrev pub invariant-loop-k : goal.invariant-loop-k
+invariant-loop-k l = (l.k ≤ l.n) × (l.m ≡ least (field_refusal (drop 1 (fields l.head)) l.kind (fields l.line)) no_refusal l.k)
+
+abbrev pub decreases-loop-k : goal.decreases-loop-k
+decreases-loop-k l = l.n - l.k

@@ -1,0 +1,15 @@
+-- `put_line_from`: the rest from a on is lent.
+use borrow.Author.Rules.{rules}
+use Rattle.text.proofs.WritingLaws.{over-lent}
+use Rattle.planreport.proofs.printing.put_line_from.Goals as goal
+
+pub returns : goal.returns
+returns c =
+    (
+      (
+        c.put_line.ensures.writes.0,
+        over-lent _ _ c.lesser-b.result c.lesser-b.ensures _ _
+            c.put_line.ensures.writes.1,
+      ),
+      c.put_line.ensures.upper_bound,
+    )

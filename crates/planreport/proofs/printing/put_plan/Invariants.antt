@@ -1,0 +1,28 @@
+-- `put_plan`: the first line and those of the steps before the ones that are left are written.
+use mathlib.Core.Path.{◌≡◌, refl, ◌∙◌}
+use mathlib.Core.List.{List, map, ◌++◌, [], ◌∷◌}
+use Prim.Native.Nat.{ℕ, ◌+◌, ◌*◌, ◌≤◌, ◌<◌}
+use native.Mathlib.Omega.{arith}
+use borrow.Author.Rules.{rules}
+use lib.IntN.{ℤ}
+use lib.ListN.{length}
+use Rattle.text.specs.Lines.{unlines}
+use Rattle.plans.specs.Form.{steps_end}
+use Rattle.plans.specs.Words.{part}
+use Rattle.runreport.proofs.RunLaws.{count-is}
+use Rattle.planreport.specs.PlanText.{words_line, step_parts, plan_text}
+use Rattle.planreport.proofs.ProgressLaws.{Progress, progress_first, progress_more, progress_all}
+use Rattle.planreport.proofs.TextLaws.{plan-few, head-length, plan-first, plan-ends, place_inside, next_end, step-inside, step-next, step-length, steps-more, steps-none}
+use Rattle.planreport.proofs.printing.put_plan.Given as goal
+
+-- the lines of the steps that are left
+abbrev pub left_text : ℕ → List ℤ → ℕ → List ℕ
+left_text left plan word = unlines (map words_line (step_parts left plan word))
+
+abbrev pub invariant-loop-left : goal.invariant-loop-left
+invariant-loop-left l =
+    (l.at ≤ 22 * l.word) × (steps_end l.left l.initial.out l.word ≡ length l.initial.out) × (length l.out ≡ length l.plan)
+    × ((d : List ℕ) → Progress (plan_text l.initial.out) d l.initial.at l.plan (left_text l.initial.left l.initial.out l.initial.word) → Progress (plan_text l.initial.out) d l.at l.out (left_text l.left l.initial.out l.word))
+
+abbrev pub decreases-loop-left : goal.decreases-loop-left
+decreases-loop-left l = l.left

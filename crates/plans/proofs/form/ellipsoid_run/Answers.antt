@@ -1,0 +1,31 @@
+-- `ellipsoid_run`: as `ellipsoid_run`, of an ellipsoid.
+use mathlib.Core.Path.{◌≡◌, refl, sym, ap, ◌∙◌}
+use Prim.Native.Nat.{◌≤◌, ◌-◌}
+use native.Mathlib.Nat.{sub-zero}
+use lib.ListN.{length}
+use borrow.Author.Tests.{not-true, not-false}
+use Rattle.plans.specs.Indices.{first_bad}
+use Rattle.plans.specs.Form.{ellipsoid_word}
+use Rattle.plans.specs.Inner.Reader.{ellipsoid_run}
+use Rattle.plans.proofs.IndexLaws.{first_more, first_stop, first_end}
+use borrow.Author.Rules.{rules}
+use Rattle.plans.proofs.form.ellipsoid_run.Goals as goal
+
+pub loop-i-init : goal.loop-i-init
+unfolding ellipsoid_run
+loop-i-init c = (search rules, rw sub-zero)
+
+pub returns-then-not-ellipsoid_word : goal.returns-then-not-ellipsoid_word
+returns-then-not-ellipsoid_word c =
+    let loop = c.loop-i in
+    sym (loop.invariant.1 ∙ first_stop _ _ loop.i c.loop-i-test.true (sym c.ellipsoid_word.ensures ∙ not-true _ c.if-not-ellipsoid_word.true-raw))
+
+pub loop-i-preserved : goal.loop-i-preserved
+loop-i-preserved c =
+    let loop = c.loop-i in (
+      search rules,
+      loop.invariant.1 ∙ first_more _ _ loop.i c.loop-i-test.true (sym c.ellipsoid_word.ensures ∙ not-false _ c.if-not-ellipsoid_word.false-raw),
+    )
+
+pub returns : goal.returns
+returns c = sym (c.loop-i.invariant.1 ∙ first_end _ _ c.loop-i.i c.loop-i-test.false)

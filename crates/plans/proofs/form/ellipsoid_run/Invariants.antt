@@ -1,0 +1,18 @@
+-- `ellipsoid_run`: as `ellipsoid_run`, of an ellipsoid.
+use mathlib.Core.Path.{◌≡◌, refl, sym, ap, ◌∙◌}
+use Prim.Native.Nat.{◌≤◌, ◌-◌}
+use native.Mathlib.Nat.{sub-zero}
+use lib.ListN.{length}
+use borrow.Author.Tests.{not-true, not-false}
+use Rattle.plans.specs.Indices.{first_bad}
+use Rattle.plans.specs.Form.{ellipsoid_word}
+use Rattle.plans.specs.Inner.Reader.{ellipsoid_run}
+use Rattle.plans.proofs.IndexLaws.{first_more, first_stop, first_end}
+use borrow.Author.Rules.{rules}
+use Rattle.plans.proofs.form.ellipsoid_run.Given as goal
+
+abbrev pub invariant-loop-i : goal.invariant-loop-i
+invariant-loop-i l = (l.i ≤ length l.body) × (ellipsoid_run l.n l.body ≡ first_bad (ellipsoid_word l.n l.body) l.i (length l.body - l.i))
+
+abbrev pub decreases-loop-i : goal.decreases-loop-i
+decreases-loop-i l = length l.body - l.i

@@ -1,0 +1,8 @@
+-- `is_free` is `free`.
+use Rattle.plans.specs.Form.{free}
+use borrow.Author.Rules.{rules}
+use Rattle.plans.proofs.form.is_free.Goals as goal
+
+pub returns : goal.returns
+unfolding free
+returns c = rw c.has_bit.ensures

@@ -1,0 +1,15 @@
+-- `region_total` meets its contract: total regions are passed, fewer than 64.
+use borrow.Author.Rules.{rules}
+use Rattle.resolve.proofs.CrowdLaws.{total-none, total-next, total_full}
+use Rattle.resolve.specs.Inner.Reading.{regions_at}
+use lib.ListN.{length}
+use native.Mathlib.Omega.{arith}
+use Prim.Native.Nat.{ℕ, ◌-◌, ◌<◌, ◌≤◌}
+use mathlib.Core.Path.{◌≡◌, ap, ◌∙◌}
+use Rattle.resolve.proofs.region_total.Given as goal
+
+abbrev pub invariant-loop-i : goal.invariant-loop-i
+invariant-loop-i l = (l.total < 64) × (l.i ≤ l.n) × (l.total ≡ length (regions_at l.text l.starts.at l.i))
+
+abbrev pub decreases-loop-i : goal.decreases-loop-i
+decreases-loop-i l = l.n - l.i

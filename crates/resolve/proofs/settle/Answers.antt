@@ -1,0 +1,6 @@
+-- `settle` meets its contract.
+use borrow.Author.Rules.{rules}
+use Rattle.resolve.proofs.settle.Goals as goal
+
+pub returns-then-b : goal.returns-then-b
+returns-then-b c = rw c.if-b.true c.with_bit_lem.ensures

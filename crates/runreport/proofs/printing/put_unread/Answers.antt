@@ -1,0 +1,8 @@
+-- `put_unread`: the line of the word `unread`.
+use borrow.Author.Rules.{rules}
+use Rattle.runreport.proofs.PrintLaws.{unread_written}
+use Rattle.runreport.proofs.printing.put_unread.Goals as goal
+
+pub returns : goal.returns
+returns c =
+    unread_written c.args.line c.args.out.now c.put_count_from.ensures

@@ -1,0 +1,18 @@
+-- `put_words`: the m words of the lines before `at` are written over the beginning.
+use mathlib.Core.Path.{◌∙◌, ap}
+use Prim.Native.Nat.{◌-◌}
+use native.Mathlib.Omega.{arith}
+use borrow.Author.Rules.{rules}
+use lib.ListN.{length}
+use Rattle.text.proofs.LinesLaws.{find_from_lem, found_inside}
+use Rattle.text.proofs.OutputLaws.{over-length}
+use Rattle.text.proofs.FilledLaws.{Filled, filled_none, few_more, filled_more, filled_all, all_written}
+use Rattle.runreport.specs.PlanReading.{line_words, words_of}
+use Rattle.runreport.proofs.LineLaws.{line_words-few, words_are}
+use Rattle.runreport.proofs.reading.put_words.Given as goal
+
+abbrev pub invariant-loop-at : goal.invariant-loop-at
+invariant-loop-at l = Filled line_words (words_of l.initial.plan) l.initial.plan l.part l.at l.m l.plan
+
+abbrev pub decreases-loop-at : goal.decreases-loop-at
+decreases-loop-at l = length l.initial.plan - l.at

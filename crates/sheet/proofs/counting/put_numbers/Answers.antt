@@ -1,0 +1,44 @@
+-- `put_numbers`: the first r counts are written over the beginning.
+use mathlib.Core.Path.{◌≡◌, refl, sym, ◌∙◌, ap}
+use Prim.Native.Nat.{◌-◌, ◌<◌}
+use native.Mathlib.Omega.{arith}
+use borrow.Author.Rules.{rules}
+use lib.ListN.{length, get_or}
+use Rattle.text.proofs.OutputLaws.{over-length}
+use Rattle.sheet.proofs.ColumnLaws.{CountsTo, counts-none, counts-more, numbers-written}
+use Rattle.sheet.proofs.counting.put_numbers.Goals as goal
+
+pub loop-r-init : goal.loop-r-init
+loop-r-init c = counts-none c.args.t2 c.args.rest.now c.requires.long
+
+pub overflow_cast-tally : goal.overflow_cast-tally
+overflow_cast-tally c =
+    let h : get_or c.args.t2.counts c.loop-r.r 0 < 32769 = omega (arith, c.requires.count_most c.loop-r.r) in
+    search rules
+
+pub loop-r-preserved : goal.loop-r-preserved
+loop-r-preserved c =
+    counts-more c.args.t2 c.args.rest.now c.requires.long c.loop-r.r (omega arith) c.loop-r.invariant refl c.put_at.ensures
+
+pub overflow_cast-tally-2 : goal.overflow_cast-tally-2
+overflow_cast-tally-2 c =
+    let h : c.args.t2.taken < 32769 = omega (arith, c.requires.taken_most) in
+    search rules
+
+pub overflow_cast-tally-3 : goal.overflow_cast-tally-3
+overflow_cast-tally-3 c =
+    let h : c.args.t2.spoilt < 32769 = omega (arith, c.requires.spoilt_most) in
+    search rules
+
+pub overflow_cast-tally-4 : goal.overflow_cast-tally-4
+overflow_cast-tally-4 c =
+    let h : c.args.t2.unclaimed < 32769 = omega (arith, c.requires.unclaimed_most) in
+    search rules
+
+pub returns : goal.returns
+returns c =
+    numbers-written c.args.t2 c.args.rest.now c.requires.long c.loop-r.r c.loop-r-test.false c.loop-r.invariant
+    refl c.put_at-2.ensures refl c.put_at-3.ensures refl c.put_at-4.ensures
+
+pub shape_of-rest : goal.shape_of-rest
+shape_of-rest c = ap length (returns c).1 ∙ over-length _ _

@@ -1,0 +1,23 @@
+-- `put_regions`: the lines of the first r regions are written over the beginning, each of at most 196,682 bytes.
+use mathlib.Core.Path.{◌≡◌, ◌∙◌, ap}
+use Prim.Native.Nat.{◌+◌, ◌-◌, ◌*◌, ◌≤◌}
+use native.Mathlib.Omega.{arith}
+use borrow.Author.Rules.{rules}
+use lib.ListN.{length}
+use Rattle.text.proofs.OutputLaws.{over-length}
+use Rattle.gates.specs.Gate.{regions}
+use Rattle.resolve.specs.Inner.Reading.{gates_at}
+use Rattle.events.proofs.PrintingLaws.{Written}
+use Rattle.report.specs.Report.{region_lines}
+use Rattle.report.proofs.ReportLaws.{lines_none}
+use Rattle.sheet.specs.Inner.Numbers.{numbers_by}
+use Rattle.sheet.proofs.PrintLaws.{region-next}
+use Rattle.sheet.proofs.printing.put_regions.Given as goal
+
+abbrev pub invariant-loop-r : goal.invariant-loop-r
+invariant-loop-r l =
+    let rs = regions (gates_at l.starts l.n.at l.m) in
+    (l.r ≤ l.columns) × (l.at ≤ 196682 * l.r) × Written (region_lines rs (numbers_by rs l.k l.total l.initial.out) l.r) l.text l.at l.out
+
+abbrev pub decreases-loop-r : goal.decreases-loop-r
+decreases-loop-r l = l.columns - l.r

@@ -1,0 +1,16 @@
+-- `parent_number` meets its contract.
+use borrow.Author.Rules.{rules}
+use Rattle.writer.specs.Inner.Words.{parent_number}
+use Rattle.stepwriter.proofs.parent_number.Goals as goal
+
+pub returns-then-is_none : goal.returns-then-is_none
+unfolding parent_number
+returns-then-is_none c =
+    let parent-field = c.parent_field-x in
+    rw (← parent-field.ensures, ← c.is_none.ensures, c.if-is_none.true)
+
+pub returns : goal.returns
+unfolding parent_number
+returns c =
+    let parent-field = c.parent_field-x in
+    rw (← parent-field.ensures, ← c.is_none.ensures, c.if-is_none.false) c.number_of.ensures

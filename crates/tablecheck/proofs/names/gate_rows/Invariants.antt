@@ -1,0 +1,19 @@
+-- `gate_rows` meets its contract: the rows below i are those of their gates.
+use borrow.Author.Rules.{rules}
+use Rattle.tablecheck.proofs.CircleLaws.{row-set}
+use Rattle.tablecheck.proofs.RowLaws.{Row}
+use Rattle.tablecheck.specs.Inner.Names.{refers_by}
+use Rattle.graph.specs.Inner.Rows.{bit_at}
+use borrow.Author.Tests.{lt-ltb}
+use lib.ListN.{length, get_or}
+use native.Mathlib.Omega.{arith}
+use Prim.Native.Nat.{ℕ, ◌-◌, ◌<◌, ◌≤◌}
+use mathlib.Core.Path.{◌≡◌, ◌∙◌}
+use Rattle.tablecheck.proofs.names.gate_rows.Given as goal
+
+abbrev pub invariant-loop-i : goal.invariant-loop-i
+invariant-loop-i l =
+    (l.i ≤ 64) × (length l.rows.bits ≡ 64) × ((a : ℕ) → a < l.i → Row (refers_by l.text l.starts.at a) l.n (get_or l.rows.bits a 0))
+
+abbrev pub decreases-loop-i : goal.decreases-loop-i
+decreases-loop-i l = 64 - l.i

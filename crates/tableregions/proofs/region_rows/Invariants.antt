@@ -1,0 +1,20 @@
+-- `region_rows` meets its contract: the rows before r are written over 64 zeros.
+use Rattle.tableregions.specs.Inner.Located.{row_of}
+use Rattle.graph.specs.Inner.Rows.{zero_rows}
+use Rattle.graph.proofs.RowLaws.{all_written}
+use Rattle.text.specs.Bounded.{tab}
+use Rattle.text.specs.Output.{over}
+use Rattle.text.proofs.BoundedLaws.{tab-more}
+use Rattle.resolve.specs.Inner.Reading.{regions_at}
+use lib.ListN.{length}
+use borrow.Author.Rules.{rules}
+use native.Mathlib.Omega.{arith}
+use Prim.Native.Nat.{◌-◌, ◌≤◌}
+use mathlib.Core.Path.{◌≡◌, ◌∙◌}
+use Rattle.tableregions.proofs.region_rows.Given as goal
+
+abbrev pub invariant-loop-r : goal.invariant-loop-r
+invariant-loop-r l = (l.r ≤ 64) × (l.rows.bits ≡ over (tab (row_of (regions_at l.text l.starts.at l.n)) l.r) zero_rows)
+
+abbrev pub decreases-loop-r : goal.decreases-loop-r
+decreases-loop-r l = 64 - l.r

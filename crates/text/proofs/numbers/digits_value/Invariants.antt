@@ -1,0 +1,15 @@
+-- `digits_value_lem`: v and the digits from i on have the value of all, cut at 2^30.
+use mathlib.Core.Path.{◌≡◌, ◌∙◌}
+use Prim.Native.Nat.{◌≤◌, ◌-◌, min}
+use native.Mathlib.Omega.{arith}
+use borrow.Author.Rules.{rules}
+use lib.ListN.{length, drop, drop_of_length-le}
+use Rattle.text.specs.Numbers.{digits_value}
+use Rattle.text.proofs.NumbersLaws.{digits_more}
+use Rattle.text.proofs.numbers.digits_value.Given as goal
+
+abbrev pub invariant-loop-i : goal.invariant-loop-i
+invariant-loop-i l = (l.v ≤ 1073741824) × (l.i ≤ length l.s) × (min (digits_value 0 l.s) 1073741824 ≡ min (digits_value l.v (drop l.i l.s)) 1073741824)
+
+abbrev pub decreases-loop-i : goal.decreases-loop-i
+decreases-loop-i l = length l.s - l.i

@@ -1,0 +1,20 @@
+-- `signed`: a value below 2^31 fits an i32 with either sign.
+use Prim.Native.Nat.{◌<◌, ◌^◌}
+use native.Mathlib.Omega.{arith}
+use borrow.Author.Rules.{rules}
+use mir.Syntax.{w32}
+use mir.ValLaws.{to_z-of_z, to_z_pos}
+use Rattle.text.proofs.NumbersLaws.{minus_is, minus-fits}
+use Rattle.text.proofs.numbers.signed.Goals as goal
+
+small : (c : goal.After-at_most-m) → c.at_most-m.result < 2 ^ 31
+small c = let e = c.at_most-m.ensures in omega arith
+
+pub overflow_sub-result : goal.overflow_sub-result
+overflow_sub-result c = rw (minus_is _ (small c.before)) (minus-fits _ (small c.before))
+
+pub returns-then-b : goal.returns-then-b
+returns-then-b c = rw (c.if-b.true, minus_is _ (small c.before), to_z-of_z w32 _ (minus-fits _ (small c.before)), ← c.at_most-m.ensures)
+
+pub returns-else-b : goal.returns-else-b
+returns-else-b c = rw (c.if-b.false, to_z_pos w32 _ (small c.before), ← c.at_most-m.ensures)

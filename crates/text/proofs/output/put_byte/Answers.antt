@@ -1,0 +1,8 @@
+-- `put_byte`: behind the end nothing is put.
+use mathlib.Core.Path.{sym}
+use borrow.Author.Rules.{rules}
+use lib.Seq.{set_out}
+use Rattle.text.proofs.output.put_byte.Goals as goal
+
+pub returns-else-i-bytes : goal.returns-else-i-bytes
+returns-else-i-bytes c = sym (set_out _ _ _ c.if-i-bytes.false)

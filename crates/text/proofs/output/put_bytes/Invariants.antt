@@ -1,0 +1,16 @@
+-- `put_bytes`: the first i bytes are written over the beginning.
+use mathlib.Core.Path.{◌≡◌, refl, ◌∙◌, ap}
+use Prim.Native.Nat.{◌≤◌, ◌-◌}
+use native.Mathlib.Omega.{arith}
+use borrow.Author.Rules.{rules}
+use lib.ListN.{length, take}
+use lib.Seq.{take_all}
+use Rattle.text.specs.Output.{over}
+use Rattle.text.proofs.OutputLaws.{over-length, over-take}
+use Rattle.text.proofs.output.put_bytes.Given as goal
+
+abbrev pub invariant-loop-i : goal.invariant-loop-i
+invariant-loop-i l = (l.i ≤ length l.initial.rest) × (l.rest ≡ over (take l.i l.initial.rest) l.s)
+
+abbrev pub decreases-loop-i : goal.decreases-loop-i
+decreases-loop-i l = length l.initial.rest - l.i

@@ -1,0 +1,6 @@
+-- `has_operands`: by the kind of the line.
+use borrow.Author.Rules.{rules}
+use Rattle.writer.proofs.has_operands.Goals as goal
+
+pub returns : goal.returns
+returns c = rw (c.combines.ensures, c.kind_of.ensures)
