@@ -6,8 +6,9 @@ use borrow.Author.Rules.{rules}
 use Rattle.decimals.specs.Decimals.{unsigned_thousandths}
 use Rattle.decimals.proofs.DecimalLaws.{thousandths-cut}
 use Rattle.decimals.proofs.unsigned_thousandths.Goals as goal
+use Rattle.decimals.proofs.unsigned_thousandths.Goals.{After-three_decimals}
 
-value : (c : goal.After-three_decimals)
+value : (c : After-three_decimals)
     → min (unsigned_thousandths c.args.u.now) 2147483647
     ≡ min (c.digits_value_lem.result * 1000 + c.three_decimals.result) 2147483647
 value c =

@@ -7,9 +7,10 @@ use lib.Seq.{length-take-le}
 use borrow.Author.Rules.{rules}
 use Rattle.runreport.proofs.RunLaws.{width_is, count-is, count_most, values-room, values_are, events_ran}
 use Rattle.runreport.proofs.put_events.Goals as goal
+use Rattle.runreport.proofs.put_events.Goals.{After-value_count-m}
 
 -- the values that were c stand in the list
-values-inside : (c : goal.After-value_count-m) → c.value_count-m.result ≤ length c.args.list.now
+values-inside : (c : After-value_count-m) → c.value_count-m.result ≤ length c.args.list.now
 values-inside c =
     values-room _ c.args.input.now c.args.list.now (omega (arith, c.requires.0, c.requires.1))
     c.read_events-answer.ensures.0 c.read_events-answer.ensures.1 c.value_count-m.ensures

@@ -8,6 +8,7 @@ use borrow.Author.Rules.{rules}
 use Rattle.runreport.specs.PlanReading.{words_of}
 use Rattle.runreport.proofs.RunLaws.{written-taken, part-is, run_unread, run_ran}
 use Rattle.runreport.proofs.put_run.Goals as goal
+use Rattle.runreport.proofs.put_run.Goals.{After-put_words-m}
 
 pub slice_bounds-part-end : goal.slice_bounds-part-end
 slice_bounds-part-end c =
@@ -19,7 +20,7 @@ returns-then-unread-gt0 c =
     c.put_unread.ensures
 
 -- the words that were read stand in the plan
-words_inside : (c : goal.After-put_words-m) → c.put_words-m.result ≤ length c.args.plan.now
+words_inside : (c : After-put_words-m) → c.put_words-m.result ≤ length c.args.plan.now
 words_inside c =
     let few = length-take-le c.split-parted.result.table c.args.input.now c.split-parted.ensures.1 in
     omega (arith, c.put_words-m.ensures.1, few, c.requires.0, c.requires.1)

@@ -3,8 +3,9 @@ use Rattle.std.proofs.Common.{rules}
 use Rattle.wide.proofs.ValueLaws.{Sized}
 use Rattle.wide.proofs.OrderLaws.{order_less, order_equal, order_greater}
 use Rattle.wide.proofs.compare.Goals as goal
+use Rattle.wide.proofs.compare.Goals.{Start}
 
-sizes : (c : goal.Start) → Sized c.args.a × Sized c.args.b
+sizes : (c : Start) → Sized c.args.a × Sized c.args.b
 sizes c = search rules
 
 pub returns-then-less : goal.returns-then-less

@@ -4,8 +4,9 @@ use Rattle.wide.proofs.CongruenceLaws.{mod_sub, mod_trans}
 use Rattle.wide.proofs.WordLaws.{borrowed, difference_mod}
 use Rattle.wide.proofs.ValueLaws.{Sized, value_mod, value-wrapped}
 use Rattle.wide.proofs.minus.Goals as goal
+use Rattle.wide.proofs.minus.Goals.{Start}
 
-sizes : (c : goal.Start) → Sized c.args.a × Sized c.args.b
+sizes : (c : Start) → Sized c.args.a × Sized c.args.b
 sizes c = search rules
 
 pub returns : goal.returns

@@ -4,8 +4,9 @@ use Rattle.wide.proofs.CongruenceLaws.{mod_add, mod_trans}
 use Rattle.wide.proofs.WordLaws.{carried, sum_mod}
 use Rattle.wide.proofs.ValueLaws.{Sized, value_mod, value-wrapped}
 use Rattle.wide.proofs.plus.Goals as goal
+use Rattle.wide.proofs.plus.Goals.{Start}
 
-sizes : (c : goal.Start) → Sized c.args.a × Sized c.args.b
+sizes : (c : Start) → Sized c.args.a × Sized c.args.b
 sizes c = search rules
 
 pub returns : goal.returns

@@ -6,8 +6,9 @@ use Rattle.wide.proofs.WordLaws.{product_mod}
 use Rattle.wide.proofs.SignLaws.{sign, when_below, by_bits}
 use Rattle.wide.proofs.ValueLaws.{Sized, value_mod, value-wrapped}
 use Rattle.wide.proofs.scaled.Goals as goal
+use Rattle.wide.proofs.scaled.Goals.{Start}
 
-a-sized : (c : goal.Start) → Sized c.args.a
+a-sized : (c : Start) → Sized c.args.a
 a-sized c = search rules
 
 pub returns : goal.returns

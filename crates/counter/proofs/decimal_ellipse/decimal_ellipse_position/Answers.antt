@@ -15,13 +15,14 @@ use Rattle.counter.specs.Inner.Steps.{position_by}
 use Rattle.counter.proofs.PositionLaws.{order_sides}
 use borrow.Author.Rules.{rules}
 use Rattle.counter.proofs.decimal_ellipse.decimal_ellipse_position.Goals as goal
+use Rattle.counter.proofs.decimal_ellipse.decimal_ellipse_position.Goals.{Start}
 
 -- the variables, that each is within its bound, and the two sides as the code computes them
     let a = c.args in
     short 65536 a.m1 ∷ short 65536 a.m2 ∷ short 2000000000 a.c11 ∷ short 2000000000 a.c12 ∷ short 2000000000 a.c22 ∷ short 4096000 a.d2
     ∷ short 65536 a.x ∷ short 65536 a.y ∷ []
 
-known : (c : goal.Start) → All w64 c
+known : (c : Start) → All w64 c
 known c = search (in_mag, in_of-positive)
 
 abbrev dx : Ex
@@ -40,10 +41,10 @@ R = var 5 ⊠ (var 2 ⊗ var 4 ⊖ var 3 ⊗ var 3)
 abbrev F : Ex
 F = lit 1000000 ⊗ (var 4 ⊗ (dx ⊗ dx) ⊖ lit 2 ⊗ (var 3 ⊗ (dx ⊗ dy)) ⊕ var 2 ⊗ (dy ⊗ dy))
 
-casts : (c : goal.Start) → Casts w64 c
+casts : (c : Start) → Casts w64 c
 casts c = zcasts w64 c (known c) tt
 
-asks : (c : goal.Start) → SumNeeds c L × SumNeeds c R
+asks : (c : Start) → SumNeeds c L × SumNeeds c R
 asks c = (sum_needs c (known c) L tt, sum_needs c (known c) R tt)
 
 pub overflow_cast-dx : goal.overflow_cast-dx

@@ -12,13 +12,14 @@ use Rattle.counter.specs.Ellipse.{form, determinant}
 use Rattle.counter.specs.Positions.{ellipse_position}
 use Rattle.counter.proofs.PositionLaws.{sides_less, sides_more, sides_equal}
 use Rattle.counter.proofs.ellipse.ellipse_position.Goals as goal
+use Rattle.counter.proofs.ellipse.ellipse_position.Goals.{Start}
 
 -- the variables, that each is within its bound, and the two sides
     let a = c.args in
     short 65536 a.m1 ∷ short 65536 a.m2 ∷ short 16777216 a.c11 ∷ short 16777216 a.c12 ∷ short 16777216 a.c22 ∷ short 4096 a.d2
     ∷ short 65536 a.x ∷ short 65536 a.y ∷ []
 
-known : (c : goal.Start) → All w64 c
+known : (c : Start) → All w64 c
 known c = search (in_mag, in_of-positive)
 
 abbrev dx : Ex
@@ -33,7 +34,7 @@ L = var 4 ⊗ (dx ⊗ dx) ⊖ lit 2 ⊗ (var 3 ⊗ (dx ⊗ dy)) ⊕ var 2 ⊗ (d
 abbrev R : Ex
 R = var 5 ⊗ (var 2 ⊗ var 4 ⊖ var 3 ⊗ var 3)
 
-asks : (c : goal.Start) → Needs w64 c L × Needs w64 c R
+asks : (c : Start) → Needs w64 c L × Needs w64 c R
 asks c = (zneeds w64 c (known c) L tt, zneeds w64 c (known c) R tt)
 
 pub overflow_cast-dx : goal.overflow_cast-dx

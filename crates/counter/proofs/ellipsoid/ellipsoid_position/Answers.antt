@@ -19,6 +19,7 @@ use Rattle.counter.proofs.EllipsoidLaws.{gathered-is}
 use Rattle.counter.proofs.PositionLaws.{order_sides}
 use borrow.Author.Rules.{rules}
 use Rattle.counter.proofs.ellipsoid.ellipsoid_position.Goals as goal
+use Rattle.counter.proofs.ellipsoid.ellipsoid_position.Goals.{Start}
 
 -- the variables, that each is within its bound, and the six products as the code computes them
     let a = c.args in
@@ -26,7 +27,7 @@ use Rattle.counter.proofs.ellipsoid.ellipsoid_position.Goals as goal
     ∷ short 16777216 a.c11 ∷ short 16777216 a.c12 ∷ short 16777216 a.c13 ∷ short 16777216 a.c22 ∷ short 16777216 a.c23 ∷ short 16777216 a.c33
     ∷ short 4096 a.d2 ∷ short 65536 a.x ∷ short 65536 a.y ∷ short 65536 a.z ∷ []
 
-known : (c : goal.Start) → All w64 c
+known : (c : Start) → All w64 c
 known c =
     let f = c.requires.0 in
     let e = c.requires.1 in (
@@ -61,7 +62,7 @@ known c =
       ),
     )
 
-casts : (c : goal.Start) → Casts w64 c
+casts : (c : Start) → Casts w64 c
 casts c = zcasts w64 c (known c) tt
 
 abbrev dx : Ex
@@ -94,7 +95,7 @@ w23 = (var 4 ⊗ var 5 ⊖ var 3 ⊗ var 7) ⊠ (lit 2 ⊗ (dy ⊗ dz))
 abbrev all : Sum
 all = ((w11 ⊞ w22) ⊞ w33) ⊞ ((w12 ⊞ w13) ⊞ w23)
 
-asks : (c : goal.Start) (t : Sum) → T (parts-fit c t) → SumNeeds c t
+asks : (c : Start) (t : Sum) → T (parts-fit c t) → SumNeeds c t
 asks c t n = sum_needs c (known c) t n
 
 pub overflow_cast-dx : goal.overflow_cast-dx

@@ -12,13 +12,14 @@ use Rattle.counter.specs.Inner.Raising.{bump_at}
 use Rattle.counter.proofs.TableLaws.{plus-odd, bump_read, bump_write, bump_done}
 use borrow.Author.Rules.{rules}
 use Rattle.counter.proofs.groups.bump.Goals as goal
+use Rattle.counter.proofs.groups.bump.Goals.{In-loop-r}
 
 pub loop-r-init : goal.loop-r-init
 unfolding list_from
 loop-r-init c = (omega arith, refl)
 
 -- in the loop: the place is below 64, and what is read is the old count, which has room
-module _ (in-loop : goal.In-loop-r) where
+module _ (in-loop : In-loop-r) where
   abbrev old : List ℕ
   old = in-loop.args.counts.now
 

@@ -20,9 +20,10 @@ use Rattle.counter.proofs.TallyLaws.{with_taken, with_spoilt, taken-small, spoil
 use Rattle.counter.proofs.GroupLaws.{group-is, candidates, one-taken, one-spoilt, sets-low}
 use borrow.Author.Rules.{rules}
 use Rattle.counter.proofs.groups.count_group.Goals as goal
+use Rattle.counter.proofs.groups.count_group.Goals.{After-number_in-steps, In-loop-e, Start}
 
 -- the group as the code takes it: the g events from the j-th on
-module _ (entry : goal.Start) where
+module _ (entry : Start) where
   abbrev plan : List ℤ
   plan = entry.args.plan.now
 
@@ -59,7 +60,7 @@ loop-e-init c =
     (omega arith, rw (add-zero (j c)) c.requires.2)
 
 -- the number of steps is read
-module _ (after-number-in : goal.After-number_in-steps) where
+module _ (after-number-in : After-number_in-steps) where
   steps_are : after-number-in.number_in-steps.result ≡ step_count (plan start)
   unfolding step_count
   steps_are = after-number-in.number_in-steps.ensures
@@ -71,7 +72,7 @@ pub in_none-unclaimed-requires : goal.in_none-unclaimed-requires
 in_none-unclaimed-requires c = (c.sets_of-sets.ensures.long, steps-few c)
 
 -- in the loop: there is room for one event more in the tally, and what it is then
-module _ (in-loop : goal.In-loop-e) where
+module _ (in-loop : In-loop-e) where
   abbrev taken : ℕ
   taken = in-loop.Taken-of.result
 

@@ -8,9 +8,10 @@ use Rattle.counter.specs.Inner.Groups.{from_to}
 use Rattle.counter.proofs.SetLaws.{has_from-to}
 use borrow.Author.Rules.{rules}
 use Rattle.counter.proofs.groups.from_to.Goals as goal
+use Rattle.counter.proofs.groups.from_to.Goals.{Start}
 
 -- nothing is shifted out
-module _ (c : goal.Start) where
+module _ (c : Start) where
   ones : 1 * 2 ^ (c.args.to - c.args.from) % 18446744073709551616 ≡ 2 ^ (c.args.to - c.args.from)
   ones =
       let p = c.requires in

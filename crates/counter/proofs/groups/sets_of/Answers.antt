@@ -10,6 +10,7 @@ use Rattle.counter.proofs.StepLaws.{now-sound}
 use Rattle.counter.proofs.GroupLaws.{Settling, settling_start, settling_next, settling_done}
 use borrow.Author.Rules.{rules}
 use Rattle.counter.proofs.groups.sets_of.Goals as goal
+use Rattle.counter.proofs.groups.sets_of.Goals.{After-number_in-r, In-loop-left}
 
 pub number_in-left-requires : goal.number_in-left-requires
 unfolding step_count
@@ -26,7 +27,7 @@ loop-left-init c =
     rw c.number_in-left.ensures (settling_start plan args.n args.group.now args.taken sound)
 
 -- in the loop: the step at hand, and those after it
-module _ (in-loop : goal.In-loop-left) where
+module _ (in-loop : In-loop-left) where
   abbrev plan : List ℤ
   plan = in-loop.args.plan.now
 
@@ -62,7 +63,7 @@ number_in-r-requires c =
     (omega arith, omega arith)
 
 -- the region of the step is one of the 64
-module _ (after-number-in2 : goal.After-number_in-r) where
+module _ (after-number-in2 : After-number_in-r) where
   region-low : after-number-in2.number_in-r.result < 64
   unfolding region_at
   region-low =

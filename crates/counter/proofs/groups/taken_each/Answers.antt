@@ -11,12 +11,13 @@ use Rattle.counter.proofs.TallyLaws.{event-inside}
 use Rattle.counter.proofs.GroupLaws.{event-part, first_next}
 use borrow.Author.Rules.{rules}
 use Rattle.counter.proofs.groups.taken_each.Goals as goal
+use Rattle.counter.proofs.groups.taken_each.Goals.{In-loop-e}
 
 pub loop-e-init : goal.loop-e-init
 loop-e-init c = (c.requires.0, c.requires.3)
 
 -- in the loop: the event lies in the group
-module _ (in-loop : goal.In-loop-e) where
+module _ (in-loop : In-loop-e) where
   abbrev n : ℕ
   n = in-loop.args.n
 

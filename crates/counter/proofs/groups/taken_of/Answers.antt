@@ -8,12 +8,13 @@ use Rattle.counter.specs.Inner.Groups.{SetOf, first_of}
 use Rattle.counter.proofs.GroupLaws.{first-none}
 use borrow.Author.Rules.{rules}
 use Rattle.counter.proofs.groups.taken_of.Goals as goal
+use Rattle.counter.proofs.groups.taken_of.Goals.{After-least}
 
 pub loop-e-init : goal.loop-e-init
 loop-e-init c = (omega arith, first-none _)
 
 -- in the loop: the next events, eight or those that are left
-module _ (after-least : goal.After-least) where
+module _ (after-least : After-least) where
   some : after-least.least.result ≤ after-least.args.g - after-least.loop-e.e
   some = let q = after-least.least.ensures in omega arith
 

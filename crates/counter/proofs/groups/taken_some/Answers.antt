@@ -7,9 +7,10 @@ use Rattle.plans.specs.Words.{part}
 use Rattle.counter.proofs.GroupLaws.{all_taken, first-from-to}
 use borrow.Author.Rules.{rules}
 use Rattle.counter.proofs.groups.taken_some.Goals as goal
+use Rattle.counter.proofs.groups.taken_some.Goals.{Start}
 
 -- the events lie in the group
-module _ (entry : goal.Start) where
+module _ (entry : Start) where
   lies : entry.args.from * entry.args.n ≤ entry.args.to * entry.args.n
   lies = mul-le-mul_right entry.args.n (le_of_lt entry.requires.0)
 

@@ -13,9 +13,10 @@ use Rattle.counter.proofs.SoundLaws.{passing, four-inside, region-below, length-
 use Rattle.counter.proofs.StepLaws.{now-sound, settled-more, settled-done, outline-more, outline-done}
 use borrow.Author.Rules.{rules}
 use Rattle.counter.proofs.passing.bits_of.Goals as goal
+use Rattle.counter.proofs.passing.bits_of.Goals.{After-number_in-region, After-settle-outline, In-loop-left}
 
 -- in the loop: the step at hand, and those after it
-module _ (b : goal.In-loop-left) where
+module _ (b : In-loop-left) where
   abbrev plan : List ℤ
   plan = b.args.plan.now
 
@@ -63,7 +64,7 @@ number_in-region-requires c =
     (omega arith, omega arith)
 
 -- the region that is read is below 64
-region-small : (c : goal.After-number_in-region) → c.number_in-region.result < 64
+region-small : (c : After-number_in-region) → c.number_in-region.result < 64
 unfolding region_at
 region-small c =
     let l = region-below (now c) in
@@ -77,7 +78,7 @@ pub settle-outline-requires : goal.settle-outline-requires
 settle-outline-requires c = region-small c.before.before.before
 
 -- after both sets are raised
-module _ (c : goal.After-settle-outline) where
+module _ (c : After-settle-outline) where
   step-inside : place in-loop + 4 ≤ length (plan in-loop)
   step-inside = four-inside (now in-loop)
 

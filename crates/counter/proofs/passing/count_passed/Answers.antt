@@ -10,6 +10,7 @@ use Rattle.counter.proofs.SoundLaws.{passing}
 use Rattle.counter.proofs.TallyLaws.{events-inside, tally-none, ragged, counted}
 use borrow.Author.Rules.{rules}
 use Rattle.counter.proofs.passing.count_passed.Goals as goal
+use Rattle.counter.proofs.passing.count_passed.Goals.{After-least-g}
 
 pub number_in-n-requires : goal.number_in-n-requires
 unfolding width
@@ -44,7 +45,7 @@ loop-rest-init c =
     (omega arith, c.no_tally-t.ensures ∙ tally-none args.plan.now args.events.now)
 
 -- in the loop: the next group, of 64 events or of those that are left
-module _ (after-least : goal.After-least-g) where
+module _ (after-least : After-least-g) where
   abbrev n : ℕ
   n = after-least.number_in-n.result
 

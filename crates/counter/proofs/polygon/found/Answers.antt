@@ -12,9 +12,10 @@ use Rattle.counter.specs.Walk.{found}
 use Rattle.counter.specs.declared.Position.TheVariants.{OnOutline}
 use borrow.Author.Rules.{rules}
 use Rattle.counter.proofs.polygon.found.Goals as goal
+use Rattle.counter.proofs.polygon.found.Goals.{In-Summed}
 
 -- the test, asked of the bits
-test-is : (c : goal.In-Summed)
+test-is : (c : In-Summed)
     → (let sum = c.in-Summed.sum in eqb (of_z w64 sum) (of_z w64 (pos 0)) ≡ eq_z sum (pos 0))
 test-is c =
     let sum = c.in-Summed.sum in

@@ -9,9 +9,10 @@ use Rattle.counter.specs.Inner.Walks.{beyond, four_beyond}
 use Rattle.counter.proofs.PolygonLaws.{scale_fits}
 use borrow.Author.Rules.{rules}
 use Rattle.counter.proofs.polygon.four_beyond.Goals as goal
+use Rattle.counter.proofs.polygon.four_beyond.Goals.{Start}
 
 -- a height that is read fits
-height : (entry : goal.Start) (k : ℕ) → SFits w32 (get_or entry.args.v.now k (pos 0))
+height : (entry : Start) (k : ℕ) → SFits w32 (get_or entry.args.v.now k (pos 0))
 height entry k = scale_fits (get_or entry.args.v.now k (pos 0)) (entry.requires.0.on_scale k)
 
 pub returns-then-above : goal.returns-then-above

@@ -16,10 +16,11 @@ use Rattle.counter.specs.declared.polygon.Walked.TheVariants.{Summed}
 use Rattle.counter.proofs.WalkLaws.{walked_start, walked_in, walked-carried}
 use borrow.Author.Rules.{rules}
 use Rattle.counter.proofs.polygon.long_walk.Goals as goal
+use Rattle.counter.proofs.polygon.long_walk.Goals.{After-run_end-start, After-walk, At-loop-i}
 
 -- ---- at the loop's head
 abbrev At : Type 0
-At = goal.At-loop-i
+At = At-loop-i
 
 module _ (b : At) where
   abbrev vs : List ℤ
@@ -42,7 +43,7 @@ run_end-start-requires c =
     (c.requires.0, c.loop-i.invariant.1, c.loop-i-test.true)
 
 -- the edges that are passed by
-passed-by : (c : goal.After-run_end-start) → (Apart (vs c) (py c) c.loop-i.i c.run_end-start.result)
+passed-by : (c : After-run_end-start) → (Apart (vs c) (py c) c.loop-i.i c.run_end-start.result)
 passed-by c = simp (to_z-of_z, c.ranges.y) at c.run_end-start.ensures
 
 pub stretch_end-end-requires : goal.stretch_end-end-requires
@@ -58,7 +59,7 @@ walk-requires c =
     )
 
 -- what the walk holds at the end of the stretch
-walk_is : (c : goal.After-walk)
+walk_is : (c : After-walk)
     → (c.walk.result ≡ walked (vs c) (px c) (py c) (c.stretch_end-end.result / 2))
 walk_is c = simp (to_z-of_z, c.ranges.x, c.ranges.y) at c.walk.ensures
 

@@ -10,12 +10,13 @@ use Rattle.integers.proofs.Bounds.{in_mag}
 use Rattle.integers.proofs.Overflow.{zneeds, zgives}
 use borrow.Author.Rules.{rules}
 use Rattle.counter.proofs.polygon.offset_of.Goals as goal
+use Rattle.counter.proofs.polygon.offset_of.Goals.{Start}
 
 -- the variables, that each is within its bound, and the two differences
     let a = c.args in
     short 65536 (get_or a.v.now a.i (pos 0)) ∷ short 65536 (get_or a.v.now (a.i + 1) (pos 0)) ∷ short 65536 a.x ∷ short 65536 a.y ∷ []
 
-known : (c : goal.Start) → All w64 c
+known : (c : Start) → All w64 c
 known c =
     let a = c.args in
     let p = c.requires.0.on_scale in
@@ -27,7 +28,7 @@ Right = var 2 ⊖ var 0
 abbrev Up : Ex
 Up = var 3 ⊖ var 1
 
-asks : (c : goal.Start) → Needs w64 c Right × Needs w64 c Up
+asks : (c : Start) → Needs w64 c Right × Needs w64 c Up
 asks c = (zneeds w64 c (known c) Right tt, zneeds w64 c (known c) Up tt)
 
 pub overflow_cast-right : goal.overflow_cast-right

@@ -15,13 +15,14 @@ use Rattle.counter.specs.Inner.Walks.{turn_for}
 use Rattle.counter.proofs.WalkLaws.{edge_carries, edge_on_line, edge_aside, turn_for_in}
 use borrow.Author.Rules.{rules}
 use Rattle.counter.proofs.polygon.past_edge.Goals as goal
+use Rattle.counter.proofs.polygon.past_edge.Goals.{After-between, After-between-then-between, After-side-s, After-turn, Start, Then-s-eq0}
 
 -- the test, asked of the bits
-test-is : (c : goal.After-side-s) → eqb (of_z w64 c.side-s.result) (of_z w64 (pos 0)) ≡ eq_z c.side-s.result (pos 0)
+test-is : (c : After-side-s) → eqb (of_z w64 c.side-s.result) (of_z w64 (pos 0)) ≡ eq_z c.side-s.result (pos 0)
 test-is c = eqb-bits w64 c.side-s.result (pos 0) (ok64 c.side-s.result c.side-s.type_inv) (sfits_lit tt)
 
 -- the numbers of both ends fit
-module _ (entry : goal.Start) where
+module _ (entry : Start) where
   a-right : SFits w64 entry.args.a.right
   a-right = fit tt entry.requires.0.right_in
 
@@ -35,18 +36,18 @@ module _ (entry : goal.Start) where
   b-up = fit tt entry.pre.1.up_in
 
 -- what the calls answer, of the numbers themselves
-right_is : (c : goal.After-between)
+right_is : (c : After-between)
     → (let args = c.args in c.between.result ≡ between args.a.right args.b.right (pos 0))
 right_is c = simp (to_z-of_z, a-right c, b-right c) at c.between.ensures
 
-up_is : (c : goal.After-between-then-between)
+up_is : (c : After-between-then-between)
     → (let args = c.args in
     c.between-then-between.result ≡ between args.a.up args.b.up (pos 0))
 up_is c =
     simp (to_z-of_z, a-up c, b-up c) at c.between-then-between.ensures
 
 -- the point is on the edge's line
-line : (c : goal.Then-s-eq0) → eq_z c.side-s.result (pos 0) ≡ true
+line : (c : Then-s-eq0) → eq_z c.side-s.result (pos 0) ≡ true
 line c = sym (test-is c.before) ∙ eq-eqb _ _ c.if-s-eq0.true
 
 pub returns-then-between-2 : goal.returns-then-between-2
@@ -70,11 +71,11 @@ returns-else-between c =
     (rw (sym (right_is c.before) ∙ c.if-between.false)))
 
 -- what `turn` answers, of the side itself
-turn_is : (c : goal.After-turn)
+turn_is : (c : After-turn)
     → (let args = c.args in c.turn.result ≡ turn_for args.a.up args.b.up c.side-s.result)
 turn_is c = let s = c.side-s in simp (to_z-of_z, ok64 s.result s.type_inv) at c.turn.ensures
 
-sum_fits : (c : goal.After-turn) → SFits w64 (c.args.sum +ℤ c.turn.result)
+sum_fits : (c : After-turn) → SFits w64 (c.args.sum +ℤ c.turn.result)
 sum_fits c =
     rw (turn_is c) (fit tt (in_add c.requires.2 (turn_for_in c.args.a.up c.args.b.up c.side-s.result)))
 

@@ -16,9 +16,10 @@ use Rattle.counter.specs.Inner.Walks.{vertex_before, beyond, Apart}
 use Rattle.counter.proofs.PolygonLaws.{scale_fits, differs-beyond}
 use Rattle.counter.proofs.WalkLaws.{before_in, apart_none, apart_more}
 use Rattle.counter.proofs.polygon.run_end.Goals as goal
+use Rattle.counter.proofs.polygon.run_end.Goals.{After-vertex_before, Start}
 
 -- the vertices, and a height that is read fits
-module _ (entry : goal.Start) where
+module _ (entry : Start) where
   abbrev v : List ℤ
   v = entry.args.v.now
 
@@ -32,7 +33,7 @@ pub vertex_before-requires : goal.vertex_before-requires
 vertex_before-requires c = let six = c.requires.0.three in (omega arith, c.requires.1)
 
 -- the vertex before is there
-room : (c : goal.After-vertex_before) → c.vertex_before.result + 1 < length (v c)
+room : (c : After-vertex_before) → c.vertex_before.result + 1 < length (v c)
 room c =
     rw c.vertex_before.ensures (before_in (v c) c.args.i c.requires.0.three (let l = c.requires.2 in omega arith))
 

@@ -6,19 +6,20 @@ use Rattle.integers.specs.Inner.Machine.{Var, own, All, Needs}
 use Rattle.integers.proofs.Overflow.{zneeds, zgives}
 use borrow.Author.Rules.{rules}
 use Rattle.counter.proofs.polygon.side.Goals as goal
+use Rattle.counter.proofs.polygon.side.Goals.{Start}
 
 -- the variables, that each is within its bound, and the expression
     let a = c.args.a in
     let b = c.args.b in
     own 131072 a.right ∷ own 131072 a.up ∷ own 131072 b.right ∷ own 131072 b.up ∷ []
 
-known : (c : goal.Start) → All w64 c
+known : (c : Start) → All w64 c
 known c = search rules
 
 abbrev E : Ex
 E = var 0 ⊗ var 3 ⊖ var 2 ⊗ var 1
 
-asks : (c : goal.Start) → Needs w64 c E
+asks : (c : Start) → Needs w64 c E
 asks c = zneeds w64 c (known c) E tt
 
 pub overflow_mul-result : goal.overflow_mul-result

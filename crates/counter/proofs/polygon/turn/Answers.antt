@@ -11,6 +11,7 @@ use Rattle.counter.specs.Inner.Walks.{one, one_of}
 use Rattle.counter.proofs.PolygonLaws.{one_bit, one_in}
 use borrow.Author.Rules.{rules}
 use Rattle.counter.proofs.polygon.turn.Goals as goal
+use Rattle.counter.proofs.polygon.turn.Goals.{Start}
 
 -- the difference of two tests
 difference-fits : (s t : Bool) → SFits w64 (to_z w64 (bool_byte s) -ℤ to_z w64 (bool_byte t))
@@ -24,7 +25,7 @@ one-of false true = refl
 one-of false false = refl
 
 -- the numbers that are handed over fit
-module _ (entry : goal.Start) where
+module _ (entry : Start) where
   from-fits : SFits w64 entry.args.a.up
   from-fits = search rules
 

@@ -17,6 +17,7 @@ use Rattle.counter.proofs.WalkLaws.{edge_at, before_in, before-next, walked-edge
 use borrow.Author.Rules.{rules}
 use Rattle.counter.proofs.polygon.walk.Invariants.{SeenBefore}
 use Rattle.counter.proofs.polygon.walk.Goals as goal
+use Rattle.counter.proofs.polygon.walk.Goals.{After-offset_of-next, After-past_edge, In-loop-i}
 
 pub vertex_before-requires : goal.vertex_before-requires
 vertex_before-requires c = let six = c.requires.0.three in (omega arith, c.requires.3.start_even)
@@ -45,7 +46,7 @@ loop-i-init c =
     )
 
 -- in the loop: the vertex at i is there
-vertex-there : (c : goal.In-loop-i) → c.loop-i.i + 1 < length c.args.v.now
+vertex-there : (c : In-loop-i) → c.loop-i.i + 1 < length c.args.v.now
 vertex-there c =
     let e = c.loop-i.invariant.4 in
     let w = c.requires.0.even in
@@ -58,7 +59,7 @@ offset_of-next-requires c =
     simp (to_z-of_z, c.ranges.x, c.ranges.y) (c.requires.0, vertex-there c, c.requires.1)
 
 -- ---- the point, seen from the ends of an edge
-module _ (c : goal.After-offset_of-next) where
+module _ (c : After-offset_of-next) where
   abbrev v : List ℤ
   v = c.args.v.now
 
@@ -90,7 +91,7 @@ past_edge-requires c =
     (near c (vertex_before (length (v c)) (i c)) (last-seen c), near c (i c) (next-seen c), record { abs = omega arith })
 
 -- what the walk holds past the edge
-past-it : (c : goal.After-past_edge)
+past-it : (c : After-past_edge)
     → (walked (v c) (x c) (y c) ((i c + 2) / 2) ≡ c.past_edge.result)
 past-it c =
     let l = vertex-there c.before.before in

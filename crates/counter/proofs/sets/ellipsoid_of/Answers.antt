@@ -14,12 +14,13 @@ use Rattle.counter.proofs.TallyLaws.{event-inside}
 use Rattle.counter.proofs.GroupLaws.{event-part, event-long, Asking, asking_all, asking_done, asked, asking_next}
 use borrow.Author.Rules.{rules}
 use Rattle.counter.proofs.sets.ellipsoid_of.Goals as goal
+use Rattle.counter.proofs.sets.ellipsoid_of.Goals.{After-first_of-e}
 
 pub loop-rest-init : goal.loop-rest-init
 loop-rest-init c = asking_all c.args.among _
 
 -- at an event: it is in the set, lies in the group and is taken
-module _ (after-first-of : goal.After-first_of-e) where
+module _ (after-first-of : After-first_of-e) where
   abbrev n : ℕ
   n = after-first-of.args.n
 

@@ -7,9 +7,10 @@ use Rattle.plans.specs.Words.{word, number}
 use Rattle.counter.specs.Inner.Groups.{in_set, outside, operand_at}
 use borrow.Author.Rules.{rules}
 use Rattle.counter.proofs.sets.operand_of.Goals as goal
+use Rattle.counter.proofs.sets.operand_of.Goals.{Start}
 
 -- the word is below 128
-module _ (entry : goal.Start) where
+module _ (entry : Start) where
   low : number (word entry.args.body.now entry.args.i) < 128
   low = entry.requires.2.region entry.args.i entry.requires.1
 

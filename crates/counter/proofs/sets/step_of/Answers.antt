@@ -14,6 +14,7 @@ use Rattle.counter.proofs.StepLaws.{body_is, body-places, head-of-step, shaped-s
 use Rattle.counter.proofs.GroupLaws.{step_those, agree_among, candidates_and, those_none}
 use borrow.Author.Rules.{rules}
 use Rattle.counter.proofs.sets.step_of.Goals as goal
+use Rattle.counter.proofs.sets.step_of.Goals.{After-head_of-head, After-parent_of}
 
 pub overflow_add-at : goal.overflow_add-at
 overflow_add-at c = let h = four-inside c.requires.1 in omega arith
@@ -25,7 +26,7 @@ pub bounds-plan-at : goal.bounds-plan-at
 bounds-plan-at c = let h = four-inside c.requires.1 in omega arith
 
 -- the parent that the code reads
-module _ (after-parent-of : goal.After-parent_of) where
+module _ (after-parent-of : After-parent_of) where
   abbrev plan : List ℤ
   plan = after-parent-of.args.plan.now
 
@@ -45,7 +46,7 @@ returns-then-among-eq0 c bits kept =
     {step = step} refl {body = body} refl (those_none c.if-among-eq0.true)
 
 -- the header that the code reads, and the body that it tells
-module _ (after-head-of : goal.After-head_of-head) where
+module _ (after-head-of : After-head_of-head) where
   header : after-head-of.head_of-head.result ≡ head_at after-head-of.args.plan.now after-head-of.args.at
   header = head-of-step after-head-of.args.plan.now after-head-of.args.at after-head-of.step_at-step.ensures after-head-of.head_of-head.ensures
 

@@ -13,6 +13,7 @@ use Rattle.counter.proofs.TallyLaws.{event-inside}
 use Rattle.counter.proofs.GroupLaws.{event-part, event-long, first-none, first_next, span_triple}
 use borrow.Author.Rules.{rules}
 use Rattle.counter.proofs.sets.triple_of.Goals as goal
+use Rattle.counter.proofs.sets.triple_of.Goals.{In-loop-e}
 
 pub number_in-d-requires : goal.number_in-d-requires
 number_in-d-requires c =
@@ -34,7 +35,7 @@ pub loop-e-init : goal.loop-e-init
 loop-e-init c = (omega arith, first-none _)
 
 -- in the loop: the event lies in the group
-module _ (in-loop : goal.In-loop-e) where
+module _ (in-loop : In-loop-e) where
   abbrev n : ℕ
   n = in-loop.args.n
 

@@ -11,15 +11,16 @@ use Rattle.counter.proofs.SoundLaws.{four-inside}
 use Rattle.counter.proofs.StepLaws.{body_is, body-places, head-is, step_out, step_in_lem, step-shaped}
 use borrow.Author.Rules.{rules}
 use Rattle.counter.proofs.shapes.step_position.Goals as goal
+use Rattle.counter.proofs.shapes.step_position.Goals.{After-head_of-head, After-parent_of}
 
 -- the parent and the header that the code reads
-parent : (c : goal.After-parent_of) → c.parent_of.result ≡ parent_region (word c.args.plan.now (c.args.at + 2))
+parent : (c : After-parent_of) → c.parent_of.result ≡ parent_region (word c.args.plan.now (c.args.at + 2))
 parent c =
     let a = c.args in
     let h = four-inside c.requires.1 in
     c.parent_of.ensures ∙ ap parent_region (read_word a.plan.now (a.at + 2) (omega arith) c.parent_of-arg-1.given)
 
-header : (c : goal.After-head_of-head)
+header : (c : After-head_of-head)
     → (let args = c.args in c.head_of-head.result ≡ head_at args.plan.now args.at)
 header c =
     let a = c.args in
@@ -51,7 +52,7 @@ step_at-step-requires c =
     (_, c.requires.1)
 
 -- the body begins and ends within the plan
-places : (c : goal.After-head_of-head)
+places : (c : After-head_of-head)
     → (let head = c.head_of-head.result in (head.start ≤ head.end) × (head.end ≤ length c.args.plan.now))
 places c =
     body-places c.args.plan.now c.args.at (header c) c.requires.1

@@ -15,6 +15,7 @@ use Rattle.counter.proofs.SoundLaws.{kind-below, four-inside}
 use Rattle.counter.proofs.StepLaws.{body_is, body-places, step_is, step-ready, plane-ready, space_ready}
 use borrow.Author.Rules.{rules}
 use Rattle.counter.proofs.steps.step_at.Goals as goal
+use Rattle.counter.proofs.steps.step_at.Goals.{After-head_at-head}
 
 pub number_in-requires : goal.number_in-requires
 number_in-requires c =
@@ -23,7 +24,7 @@ number_in-requires c =
     (omega arith, omega arith)
 
 -- the kind, the header and the body that the code reads, and what is known of them
-module _ (after-head-at : goal.After-head_at-head) where
+module _ (after-head-at : After-head_at-head) where
   abbrev plan : List ℤ
   plan = after-head-at.args.plan.now
 

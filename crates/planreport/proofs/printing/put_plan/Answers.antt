@@ -15,6 +15,7 @@ use Rattle.planreport.proofs.ProgressLaws.{Progress, progress_first, progress_mo
 use Rattle.planreport.proofs.TextLaws.{plan-few, head-length, plan-first, plan-ends, place_inside, next_end, step-inside, step-next, step-length, steps-more, steps-none}
 use Rattle.planreport.proofs.printing.put_plan.Invariants.{left_text}
 use Rattle.planreport.proofs.printing.put_plan.Goals as goal
+use Rattle.planreport.proofs.printing.put_plan.Goals.{After-number_at-m}
 
 pub put_line-at-requires : goal.put_line-at-requires
 put_line-at-requires c =
@@ -33,7 +34,7 @@ overflow_add-word c =
 
 -- ---- a turn of the loop, when the length of its step is read
 
-module _ (turn : goal.After-number_at-m) where
+module _ (turn : After-number_at-m) where
   abbrev plan : List ℤ
   plan = turn.args.plan.now
 

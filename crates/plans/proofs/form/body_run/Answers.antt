@@ -13,9 +13,10 @@ use Rattle.plans.proofs.KindLaws.{ellipsoid-run-is}
 use Rattle.plans.proofs.IndexLaws.{first_more, first_stop, first_end}
 use borrow.Author.Rules.{rules}
 use Rattle.plans.proofs.form.body_run.Goals as goal
+use Rattle.plans.proofs.form.body_run.Goals.{After-kind_number}
 
 -- whether the kind is an ellipsoid's
-kind-told : (c : goal.After-kind_number) → eqb (kind_number c.args.kind) 8 ≡ eqb c.kind_number.result 8
+kind-told : (c : After-kind_number) → eqb (kind_number c.args.kind) 8 ≡ eqb c.kind_number.result 8
 kind-told c = ap (λ (k : ℕ). eqb k 8) (sym c.kind_number.ensures)
 
 pub returns-then-kind_number-eq8 : goal.returns-then-kind_number-eq8

@@ -6,9 +6,10 @@ use lib.ListN.{length}
 use Rattle.plans.proofs.CheckLaws.{run-most, part-most, bad-head, bad-body, good-step}
 use borrow.Author.Rules.{rules}
 use Rattle.plans.proofs.form.step_form.Goals as goal
+use Rattle.plans.proofs.form.step_form.Goals.{After-body_run-run, After-part_at}
 
 -- a body has at most as many words as the plan, and its good words are no more
-short : (c : goal.After-part_at) → length c.part_at.result.now ≤ 4096
+short : (c : After-part_at) → length c.part_at.result.now ≤ 4096
 short c =
     let a = c.args in
     let h = c.requires.1 in
@@ -16,7 +17,7 @@ short c =
     let l = part-most a.plan.now (a.at + 4) c.number_at-m.result in
     omega arith
 
-few : (c : goal.After-body_run-run) → c.body_run-run.result ≤ 4096
+few : (c : After-body_run-run) → c.body_run-run.result ≤ 4096
 few c =
     let a = c.args in
     let e = c.body_run-run.ensures in

@@ -5,8 +5,9 @@ use mir.Facts.{to_z-of_z}
 use lib.IntN.{◌*ℤ◌}
 use Rattle.integers.proofs.Bounds.{in_fit, in_mul, fit, wider}
 use Rattle.plans.proofs.matrix.product.Goals as goal
+use Rattle.plans.proofs.matrix.product.Goals.{Start}
 
-fits-product : (c : goal.Start) → SFits w64 (c.args.a *ℤ c.args.b)
+fits-product : (c : Start) → SFits w64 (c.args.a *ℤ c.args.b)
 fits-product c = fit tt (in_mul (in_fit w32 c.ranges.a) (in_fit w32 c.ranges.b))
 
 pub overflow_cast-result : goal.overflow_cast-result

@@ -6,8 +6,9 @@ use Rattle.wide.specs.Inner.Values.{value, order_of}
 use Rattle.wide.proofs.OrderLaws.{is_greater, is_greater_lem}
 use borrow.Author.Rules.{rules}
 use Rattle.plans.proofs.matrix3.is_positive.Goals as goal
+use Rattle.plans.proofs.matrix3.is_positive.Goals.{After-compare}
 
-above : (c : goal.After-compare) → is_greater c.compare.result ≡ lt_z (pos 0) (value c.args.w)
+above : (c : After-compare) → is_greater c.compare.result ≡ lt_z (pos 0) (value c.args.w)
 above c =
     let w = c.args.w in
     ap is_greater (c.compare.ensures ∙ ap (λ (z : ℤ). order_of (value w) z) c.of.ensures) ∙ is_greater_lem (value w) (pos 0)

@@ -17,15 +17,16 @@ use Rattle.plans.specs.Form.{matrix_good, matrix3_good}
 use Rattle.plans.proofs.AdjugateTheorems.{a11, a12, a13}
 use borrow.Author.Rules.{rules}
 use Rattle.plans.proofs.matrix3.matrix3_good.Goals as goal
+use Rattle.plans.proofs.matrix3.matrix3_good.Goals.{After-matrix_good, Start}
 
 -- any entries of 32 bits, and the determinant as the calls make it
-abbrev entries : (c : goal.Start) → List ℤ
+abbrev entries : (c : Start) → List ℤ
 entries c = let a = c.args in a.c11 ∷ a.c12 ∷ a.c13 ∷ a.c22 ∷ a.c23 ∷ a.c33 ∷ []
 
 abbrev bounds : List ℕ
 bounds = 2147483648 ∷ 2147483648 ∷ 2147483648 ∷ 2147483648 ∷ 2147483648 ∷ 2147483648 ∷ []
 
-known : (c : goal.Start) → Within bounds (entries c)
+known : (c : Start) → Within bounds (entries c)
 known c =
     let f = c.ranges in
     (in_fit w32 f.c11, (in_fit w32 f.c12, (in_fit w32 f.c13, (in_fit w32 f.c22, (in_fit w32 f.c23, (in_fit w32 f.c33, tt))))))
@@ -35,7 +36,7 @@ D = var 0 ⊠ a11 ⊞ var 1 ⊠ a12 ⊞ var 2 ⊠ a13
 
 -- both tests, the first with an answer
 
-corner : (c : goal.After-matrix_good) → let a = c.args in c.matrix_good.result ≡ matrix_good a.c11 a.c12 a.c22
+corner : (c : After-matrix_good) → let a = c.args in c.matrix_good.result ≡ matrix_good a.c11 a.c12 a.c22
 corner c = let f = c.ranges in simp (to_z-of_z, f.c11, f.c12, f.c22) at c.matrix_good.ensures
 
 pub returns-then-matrix_good : goal.returns-then-matrix_good

@@ -9,9 +9,10 @@ use Rattle.integers.proofs.Bounds.{ok64}
 use Rattle.plans.proofs.MatrixLaws.{minor_fits}
 use borrow.Author.Rules.{rules}
 use Rattle.plans.proofs.matrix3.minor.Goals as goal
+use Rattle.plans.proofs.matrix3.minor.Goals.{After-product-2}
 
 -- the two products, and their difference
-module _ (c : goal.After-product-2) where
+module _ (c : After-product-2) where
   abbrev a : ℤ
   a = c.args.a
 

@@ -10,11 +10,12 @@ use Rattle.tablecheck.specs.Inner.Names.{GoodLines}
 use Rattle.tablecheck.proofs.NamesLaws.{count-read, few, most, crowded_refused, repeated-refused, dead_refused, circled_refused, none-refused}
 use borrow.Author.Rules.{rules}
 use Rattle.tablecheck.proofs.names.names_refusal.Goals as goal
+use Rattle.tablecheck.proofs.names.names_refusal.Goals.{After-first_crowded-crowded}
 
 -- ---- what is known once the gates are looked at for crowding
 
 abbrev Crowding : Type 0
-Crowding = goal.After-first_crowded-crowded
+Crowding = After-first_crowded-crowded
 
 module _ (b : Crowding) where
   abbrev text : List ℕ

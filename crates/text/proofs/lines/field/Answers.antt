@@ -8,11 +8,12 @@ use lib.ListN.{length, drop, get_or}
 use Rattle.text.specs.Lines.{fields}
 use Rattle.text.proofs.LinesLaws.{find_from_lem, found_inside, field_next, field_none, field_here}
 use Rattle.text.proofs.lines.field.Goals as goal
+use Rattle.text.proofs.lines.field.Goals.{After-find-e, After-find-e-2}
 
-inside : (c : goal.After-find-e) → c.find-e.result ≤ length c.args.line.now
+inside : (c : After-find-e) → c.find-e.result ≤ length c.args.line.now
 inside c = found_inside _ _ 9 c.find-e.ensures c.loop-left.invariant.0
 
-inside-2 : (c : goal.After-find-e-2) → c.find-e-2.result ≤ length c.args.line.now
+inside-2 : (c : After-find-e-2) → c.find-e-2.result ≤ length c.args.line.now
 inside-2 c = found_inside _ _ 9 c.find-e-2.ensures c.loop-left.invariant.0
 
 pub returns-then-e-line : goal.returns-then-e-line

@@ -12,16 +12,17 @@ use Rattle.text.proofs.BytesLaws.{rest-inside, rest-next, rest-first}
 use Rattle.text.proofs.OutputLaws.{over-length, over-take}
 use Rattle.text.proofs.LinesLaws.{find_from_lem, found_inside, lines_end, starts-cut, line_starts-length}
 use Rattle.text.proofs.lines.index_lines.Goals as goal
+use Rattle.text.proofs.lines.index_lines.Goals.{After-find-at}
 
 pub loop-at-init : goal.loop-at-init
 unfolding line_starts over
 loop-at-init c = (search rules, search rules, refl, refl)
 
-inside : (c : goal.After-find-at)
+inside : (c : After-find-at)
     → c.find-at.result ≤ length c.args.text.now
 inside c = found_inside _ _ 10 c.find-at.ensures (omega arith)
 
-from : (c : goal.After-find-at) → c.loop-at.at ≤ c.find-at.result
+from : (c : After-find-at) → c.loop-at.at ≤ c.find-at.result
 from c =
     omega (arith, find_from_lem c.args.text.now c.loop-at.at 10)
 

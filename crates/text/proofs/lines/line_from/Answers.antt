@@ -7,11 +7,12 @@ use lib.ListN.{length}
 use Rattle.text.specs.Inner.Places.{line_from}
 use Rattle.text.proofs.LinesLaws.{find_from_lem, found_inside, line-none}
 use Rattle.text.proofs.lines.line_from.Goals as goal
+use Rattle.text.proofs.lines.line_from.Goals.{After-find-e}
 
 pub returns-then-text-a : goal.returns-then-text-a
 returns-then-text-a c = sym (line-none _ _ c.if-text-a.true)
 
-inside : (c : goal.After-find-e) → c.find-e.result ≤ length c.args.text.now
+inside : (c : After-find-e) → c.find-e.result ≤ length c.args.text.now
 inside c = found_inside _ _ 10 c.find-e.ensures (omega arith)
 
 pub slice_bounds-result-count : goal.slice_bounds-result-count

@@ -6,8 +6,9 @@ use mir.Syntax.{w32}
 use mir.ValLaws.{to_z-of_z, to_z_pos}
 use Rattle.text.proofs.NumbersLaws.{minus_is, minus-fits}
 use Rattle.text.proofs.numbers.signed.Goals as goal
+use Rattle.text.proofs.numbers.signed.Goals.{After-at_most-m}
 
-small : (c : goal.After-at_most-m) → c.at_most-m.result < 2 ^ 31
+small : (c : After-at_most-m) → c.at_most-m.result < 2 ^ 31
 small c = let e = c.at_most-m.ensures in omega arith
 
 pub overflow_sub-result : goal.overflow_sub-result

@@ -3,12 +3,13 @@ use Rattle.std.proofs.Common.{arith, to_z-of_z}
 use mir.Facts.{Fits-nat_abs}
 use Rattle.wide.proofs.SignLaws.{Below, NotBelow, below-zero, from_zero}
 use Rattle.wide.proofs.words.bits_of.Goals as goal
+use Rattle.wide.proofs.words.bits_of.Goals.{Else-x-lt0, Then-x-lt0}
 
-below : (c : goal.Then-x-lt0) → Below c.args.x
+below : (c : Then-x-lt0) → Below c.args.x
 below c =
     below-zero c.args.x c.ranges.x (simp (to_z-of_z, c.ranges.x) at c.if-x-lt0.true)
 
-not-below : (c : goal.Else-x-lt0) → NotBelow c.args.x
+not-below : (c : Else-x-lt0) → NotBelow c.args.x
 not-below c =
     from_zero c.args.x (simp (to_z-of_z, c.ranges.x) at c.if-x-lt0.false)
 
@@ -16,7 +17,7 @@ pub overflow_add-y : goal.overflow_add-y
 overflow_add-y c = simp (to_z-of_z, c.ranges.x) (below c).sum_fits
 
 pub overflow_sub-y : goal.overflow_sub-y
-overflow_sub-y c = simp (to_z-of_z, c.ranges.x, (below c).sum_fits) (below c).ranges
+overflow_sub-y c = simp (to_z-of_z, c.ranges.x, (below c).sum_fits) (below c).fits
 
 pub overflow_cast-result : goal.overflow_cast-result
 overflow_cast-result c =

@@ -2,8 +2,9 @@
 use Rattle.std.proofs.Common.{arith}
 use Rattle.wide.proofs.ColumnLaws.{Products, products, upper-word}
 use Rattle.wide.proofs.words.product_high.Goals as goal
+use Rattle.wide.proofs.words.product_high.Goals.{Start}
 
-known : (c : goal.Start) → Products c.args.u c.args.v
+known : (c : Start) → Products c.args.u c.args.v
 known c = products c.args.u c.args.v c.ranges.u.fits c.ranges.v.fits
 
 pub overflow_mul-t : goal.overflow_mul-t
