@@ -82,7 +82,7 @@ loop-k-preserved c =
     rw region-rows.ensures (referring text args.starts.at n settled) in
     let e = next-is rs region-rows.result.bits rows total head.written next_row.ensures in
     let short = step-short text args.starts.at n next_row.result settled (omega arith) in
-    filling_more _ _ head.invariant (omega arith) _ e (omega arith) words (omega arith) put-step-from.ensures.1 c.with_bit_lem.ensures
+    filling_more _ _ head.invariant (omega arith) _ e (omega arith) words (omega arith) put-step-from.ensures.1 c.with_bit-written.ensures
 
 pub shape_of-rest : goal.shape_of-rest
 shape_of-rest c = ap length c.loop-k.invariant.filled ∙ over-length _ _

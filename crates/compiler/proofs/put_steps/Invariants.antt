@@ -13,7 +13,7 @@ use native.Mathlib.Omega.{arith}
 use Rattle.compiler.proofs.put_steps.Given as goal
 
 abbrev pub invariant-loop-k : goal.invariant-loop-k
-invariant-loop-k l = Filling (regions_at l.starts l.n.at l.total) l.text l.written l.k l.at l.rest
+invariant-loop-k l = Filling (regions_at l.text l.starts.at l.n) l.initial.rest l.written l.k l.at l.rest
 
 abbrev pub decreases-loop-k : goal.decreases-loop-k
-decreases-loop-k l = l.rows - l.k
+decreases-loop-k l = l.total - l.k

@@ -16,7 +16,7 @@ pub slice_bounds-result-count-2 : goal.slice_bounds-result-count-2
 slice_bounds-result-count-2 c = found_inside _ _ 46 c.find-e.ensures (omega arith)
 
 pub slice_bounds-result-start-2 : goal.slice_bounds-result-start-2
-slice_bounds-result-start-2 c = let i = sub-result-2 c in search rules
+slice_bounds-result-start-2 c = let i = slice_bounds-result-count-2 c in search rules
 
 pub returns : goal.returns
 returns c =

@@ -16,7 +16,7 @@ pub returns : goal.returns
 returns c =
     let args = c.args in
     let tally = c.count-c.result.tally in
-    let long : length tally.counts-1 ≡ 64 =
+    let long : length tally.counts ≡ 64 =
     ap (λ (k : Counting). length k.tally.counts) c.count-c.ensures ∙ count_long args.plan.now args.events.now in
     rw (c.put_counts.ensures, c.checked_number.ensures, c.checked_place.ensures)
-    (sets_more tally.counts-1 _ 4 68 tally.unclaimed (omega arith) ∙ ap (sets args.out.now 0) (ap count_row c.count-c.ensures))
+    (sets_more tally.counts _ 4 68 tally.unclaimed (omega arith) ∙ ap (sets args.out.now 0) (ap count_row c.count-c.ensures))

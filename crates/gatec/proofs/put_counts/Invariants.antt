@@ -10,7 +10,7 @@ use borrow.Author.Rules.{rules}
 use Rattle.gatec.proofs.put_counts.Given as goal
 
 abbrev pub invariant-loop-i : goal.invariant-loop-i
-invariant-loop-i l = (l.i ≤ 64) × (l.out ≡ sets l.counts 4 (take l.i l.initial.out))
+invariant-loop-i l = (l.i ≤ 64) × (l.out ≡ sets l.initial.out 4 (take l.i l.counts))
 
 abbrev pub decreases-loop-i : goal.decreases-loop-i
 decreases-loop-i l = 64 - l.i

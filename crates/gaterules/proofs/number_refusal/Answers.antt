@@ -8,11 +8,11 @@ use borrow.Author.Rules.{rules}
 use Rattle.gaterules.proofs.number_refusal.Goals as goal
 
 pub returns-in-Bad : goal.returns-in-Bad
-returns-in-Bad c = number-bad _ _ _ (sym c.read_number_lem.ensures ∙ c.in-Bad.is)
+returns-in-Bad c = number-bad _ _ _ (sym c.read_number.ensures ∙ c.in-Bad.is)
 
 pub returns-in-Value : goal.returns-in-Value
 returns-in-Value c =
     let v = c.v-1 in
     let e : to_z w32 (of_z w32 v.given.0.0) ≡ v.given.0.0 = search rules in
     rw (c.unless.ensures, to_z-of_z w32 _ c.ranges.lo, to_z-of_z w32 _ c.ranges.hi, e)
-    (number-value _ _ _ _ c.requires.0 c.requires.1 (sym c.read_number_lem.ensures ∙ v.given.1))
+    (number-value _ _ _ _ c.requires.0 c.requires.1 (sym c.read_number.ensures ∙ v.given.1))

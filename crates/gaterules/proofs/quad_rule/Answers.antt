@@ -22,7 +22,7 @@ returns-then-k-a c =
       lt-leb args.k 3 c.if-k-le3.false,
       ← c.quadrants_at-a.ensures.0,
       lt-ltb args.k c.quadrants_at-a.result c.if-k-a.true,
-      c.divider_rule_lem.ensures,
+      c.divider_rule.ensures,
       c.minus.ensures,
       c.divider_at.ensures.0,
       e,

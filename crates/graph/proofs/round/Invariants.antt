@@ -11,7 +11,7 @@ use mathlib.Core.Path.{◌≡◌, refl, ◌∙◌}
 use Rattle.graph.proofs.round.Given as goal
 
 abbrev pub invariant-loop-i : goal.invariant-loop-i
-invariant-loop-i l = (l.i ≤ 64) × (l.rows ≡ over (tab (joined l.s l.other) l.i) l.s)
+invariant-loop-i l = (l.i ≤ 64) × (l.rows ≡ over (tab (joined l.initial.rows l.s) l.i) l.initial.rows)
 
 abbrev pub decreases-loop-i : goal.decreases-loop-i
 decreases-loop-i l = 64 - l.i

@@ -9,10 +9,10 @@ pub returns-then-head-end : goal.returns-then-head-end
 unfolding right_line dimensions head_fields
 returns-then-head-end c =
     let head = c.head_line-head in
-    rw (← head.ensures) (nothing-behind head.result-1.now c.find-end.result c.find-end.ensures c.if-head-end.true)
+    rw (← head.ensures) (nothing-behind head.result.now c.find-end.result c.find-end.ensures c.if-head-end.true)
 
 pub returns : goal.returns
 unfolding right_line dimensions head_fields
 returns c =
     let head = c.head_line-head in
-    rw (← head.ensures) (behind-tab head.result-1.now c.find-end.result c.find-end.ensures c.if-head-end.false)
+    rw (← head.ensures) (behind-tab head.result.now c.find-end.result c.find-end.ensures c.if-head-end.false)

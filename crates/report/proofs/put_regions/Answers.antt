@@ -22,9 +22,9 @@ overflow_add-at c =
     let pre = c.requires in
     let rs = regions (gates_at a.text.now a.starts.at a.n) in
     let w =
-    count_next rs a.tally.counts a.out-1.now loop.r loop.at loop.invariant.1 c.name_at-name.ensures
+    count_next rs a.tally.counts a.out.now loop.r loop.at loop.invariant.1 c.name_at-name.ensures
     c.count_at.ensures c.put_count_from-at.ensures in
-    omega (arith, pre.0, lines-short rs a.tally.counts a.out-1.now (loop.r + 1) _ w a.m pre.2 (omega arith))
+    omega (arith, pre.0, lines-short rs a.tally.counts a.out.now (loop.r + 1) _ w a.m pre.2 (omega arith))
 
 pub loop-r-preserved : goal.loop-r-preserved
 loop-r-preserved c =
@@ -43,4 +43,4 @@ returns c =
     let rs = regions (gates_at a.text.now a.starts.at a.n) in
     let z : c.loop-r.r ≡ a.m = omega arith in
     let w = rw z at c.loop-r.invariant.1 in
-    (w, omega (arith, c.requires.0, lines-short rs a.tally.counts a.out-1.now a.m c.loop-r.at w a.m c.requires.2 (omega arith)))
+    (w, omega (arith, c.requires.0, lines-short rs a.tally.counts a.out.now a.m c.loop-r.at w a.m c.requires.2 (omega arith)))

@@ -14,7 +14,7 @@ use Rattle.report.proofs.put_regions.Given as goal
 
 abbrev pub invariant-loop-r : goal.invariant-loop-r
 invariant-loop-r l =
-    (l.r ≤ l.tally) × Written (region_lines (regions (gates_at l.starts l.n.at l.m)) (count_numbers l.initial.out.counts) l.r) l.text l.at l.out
+    (l.r ≤ l.m) × Written (region_lines (regions (gates_at l.text l.starts.at l.n)) (count_numbers l.tally.counts) l.r) l.initial.out l.at l.out
 
 abbrev pub decreases-loop-r : goal.decreases-loop-r
-decreases-loop-r l = l.tally - l.r
+decreases-loop-r l = l.m - l.r

@@ -18,7 +18,7 @@ slice_bounds-put_counted-end c =
     let r = c.read_events-answer in
     let args = c.args in
     let pre = c.requires in
-    let k = values-room _ args.input.now pre.0 args.list-1.now _ pre.2 _ r.ensures.0 r.ensures.1 _ c.in-Values.is in
+    let k = values-room _ args.input.now pre.0 args.list.now _ pre.2 _ r.ensures.0 r.ensures.1 _ c.in-Values.is in
     omega (arith, r.auto, pre.2, k)
 
 pub slice_bounds-put_counted-end-in-Values : goal.slice_bounds-put_counted-end-in-Values
@@ -26,7 +26,7 @@ slice_bounds-put_counted-end-in-Values c =
     let r = c.read_events-answer in
     let args = c.args in
     let pre = c.requires in
-    let k = values-room _ args.input.now pre.0 args.list-1.now _ pre.2 _ r.ensures.0 r.ensures.1 _ c.in-Values.is in
+    let k = values-room _ args.input.now pre.0 args.list.now _ pre.2 _ r.ensures.0 r.ensures.1 _ c.in-Values.is in
     sym (length-take-le c.in-Values.k _ (omega (arith, r.auto, pre.2, k)))
 
 pub returns-in-Values : goal.returns-in-Values
@@ -57,4 +57,4 @@ pub returns-in-Short : goal.returns-in-Short
 returns-in-Short c =
     let r = c.read_events-answer in
     let args = c.args in
-    absurd (never_short _ args.input.now c.requires.0 args.list-1.now _ c.requires.2 _ r.ensures.0 r.ensures.1 c.in-Short.is)
+    absurd (never_short _ args.input.now c.requires.0 args.list.now _ c.requires.2 _ r.ensures.0 r.ensures.1 c.in-Short.is)

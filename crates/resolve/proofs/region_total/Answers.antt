@@ -15,7 +15,7 @@ pub returns-then-total-m : goal.returns-then-total-m
 returns-then-total-m c =
     let head = c.loop-i in
     let loop-test = c.loop-i-test in
-    let line_at_lem = c.line_at_lem in
+    let line_at_lem = c.line_at in
     total_full c.args.text.now c.args.starts.at c.args.n head.i loop-test.true line_at_lem.ensures
     c.region_count-m.ensures head.invariant.2 c.if-total-m.true
 
@@ -23,7 +23,7 @@ pub loop-i-preserved : goal.loop-i-preserved
 loop-i-preserved c =
     let head = c.loop-i in
     let loop-test = c.loop-i-test in
-    let line_at_lem = c.line_at_lem in
+    let line_at_lem = c.line_at in
     let below = c.if-total-m.false in
     let small = head.invariant.0 in (
       omega arith,

@@ -26,17 +26,17 @@ words_inside c =
     omega (arith, c.put_words-m.ensures.1, few, c.requires.0, c.requires.1)
 
 pub slice_bounds-put_plan-end : goal.slice_bounds-put_plan-end
-slice_bounds-put_plan-end c = omega (arith, c.put_words-m.auto, words_inside c.before)
+slice_bounds-put_plan-end c = omega (arith, c.put_words-m.auto, words_inside (goal.at.slice_bounds-put_plan-end c).After-put_words-m)
 
 pub slice_bounds-put_plan-end-2 : goal.slice_bounds-put_plan-end-2
 slice_bounds-put_plan-end-2 c =
-    sym (length-take-le c.put_words-m.result _ (omega (arith, c.put_words-m.auto, words_inside c.before)))
+    sym (length-take-le c.put_words-m.result _ (omega (arith, c.put_words-m.auto, words_inside (goal.at.slice_bounds-put_plan-end-2 c).After-put_words-m)))
 
 pub returns : goal.returns
 returns c =
     let input = c.args.input.now in
     let part = take c.split-parted.result.table input in
     let plan = written-taken (words_of part) c.args.plan.now c.put_words-m.ensures.0
-    (omega (arith, c.put_words-m.ensures.0.0, words_inside c.before.before.before.before.before.before.before)) in
+    (omega (arith, c.put_words-m.ensures.0.0, words_inside (goal.at.returns c).After-put_words-m)) in
     rw (run_ran input c.requires.0 (part-is _ _ c.split-parted.ensures.0) c.unread_line-unread.ensures c.if-unread-gt0.false _ plan) at
     c.put_plan.ensures

@@ -25,7 +25,7 @@ returns-then-line-gt0 c =
     let b = take c.split-parted.result.table i in
     let t = part-is-table i c.split-parted.ensures.0 in
     let n = dims-read b c.head_line.ensures c.name_count.ensures in
-    let accepted = written-accepted b args.plan-1.now _ c.requires.1 c.compile-compiled.ensures c.in-Written.is in
+    let accepted = written-accepted b args.plan.now _ c.requires.1 c.compile-compiled.ensures c.in-Written.is in
     let printed =
     ragged-printed i b c.requires.0 t.0 accepted c.ragged_line-line.result c.test_lists-tested.result c.test_lists-tested.ensures
     c.in-Right.is c.if-line-gt0.true
@@ -38,7 +38,7 @@ slice_bounds-count_lists-end c =
     let i = args.input.now in
     let b = take c.split-parted.result.table i in
     let t = part-is-table i c.split-parted.ensures.0 in
-    written-inside b args.plan-1.now _ c.requires.1 c.compile-compiled.ensures c.in-Written.is
+    written-inside b args.plan.now _ c.requires.1 c.compile-compiled.ensures c.in-Written.is
 
 pub slice_bounds-count_lists-end-in-Right : goal.slice_bounds-count_lists-end-in-Right
 slice_bounds-count_lists-end-in-Right c =
@@ -46,7 +46,7 @@ slice_bounds-count_lists-end-in-Right c =
     let i = args.input.now in
     let b = take c.split-parted.result.table i in
     let t = part-is-table i c.split-parted.ensures.0 in
-    sym (length-take-le _ _ (written-inside b args.plan-1.now _ c.requires.1 c.compile-compiled.ensures c.in-Written.is))
+    sym (length-take-le _ _ (written-inside b args.plan.now _ c.requires.1 c.compile-compiled.ensures c.in-Written.is))
 
 pub count_lists-counts-requires : goal.count_lists-counts-requires
 count_lists-counts-requires c =
@@ -64,9 +64,9 @@ put_sheet-requires c =
     let b = take c.split-parted.result.table i in
     let t = part-is-table i c.split-parted.ensures.0 in
     let w = c.count_lists-counts.ensures in
-    let accepted = written-accepted b args.plan-1.now _ c.requires.1 c.compile-compiled.ensures c.in-Written.is in (
+    let accepted = written-accepted b args.plan.now _ c.requires.1 c.compile-compiled.ensures c.in-Written.is in (
       ap (λ (v : Verdict). v.number) accepted,
-      written-regions b args.plan-1.now _ c.requires.1 c.compile-compiled.ensures c.in-Written.is,
+      written-regions b args.plan.now _ c.requires.1 c.compile-compiled.ensures c.in-Written.is,
       omega (arith, w.lists_are, lists-few i, c.requires.0),
       within_more (omega arith) w.total_most,
     )
@@ -79,7 +79,7 @@ returns-in-Refused c =
     let t = part-is-table i c.split-parted.ensures.0 in
     let n = dims-read b c.head_line.ensures c.name_count.ensures in
     let printed =
-    refused-printed b args.plan-1.now _ c.requires.1 c.compile-compiled.ensures c.in-Refused.is (column_lines true i)
+    refused-printed b args.plan.now _ c.requires.1 c.compile-compiled.ensures c.in-Refused.is (column_lines true i)
     c.ragged_line-line.result (value_lists i)
     c.number_of.result c.place_of.result c.number_of.ensures c.place_of.ensures
     ∙ input-printed i b c.requires.0 t.0 n c.ragged_line-line.ensures in
@@ -92,7 +92,7 @@ returns-in-Wrong c =
     let b = take c.split-parted.result.table i in
     let t = part-is-table i c.split-parted.ensures.0 in
     let n = dims-read b c.head_line.ensures c.name_count.ensures in
-    let accepted = written-accepted b args.plan-1.now _ c.requires.1 c.compile-compiled.ensures c.in-Written.is in
+    let accepted = written-accepted b args.plan.now _ c.requires.1 c.compile-compiled.ensures c.in-Written.is in
     let printed =
     wrong-printed i b c.requires.0 t.0 accepted c.ragged_line-line.result c.test_lists-tested.result c.test_lists-tested.ensures
     c.in-Wrong.is
@@ -106,11 +106,11 @@ returns-else-line-gt0 c =
     let b = take c.split-parted.result.table i in
     let t = part-is-table i c.split-parted.ensures.0 in
     let n = dims-read b c.head_line.ensures c.name_count.ensures in
-    let accepted = written-accepted b args.plan-1.now _ c.requires.1 c.compile-compiled.ensures c.in-Written.is in
-    let plan = written-plan b args.plan-1.now _ c.requires.1 c.compile-compiled.ensures c.in-Written.is in
+    let accepted = written-accepted b args.plan.now _ c.requires.1 c.compile-compiled.ensures c.in-Written.is in
+    let plan = written-plan b args.plan.now _ c.requires.1 c.compile-compiled.ensures c.in-Written.is in
     let printed =
     lists-printed i b c.requires.0 t.0 accepted c.ragged_line-line.result c.test_lists-tested.result c.test_lists-tested.ensures
     c.in-Right.is c.if-line-gt0.false n c.ragged_line-line.ensures
-    args.columns-1.now _ c.requires.3 c.count_lists-counts.result (rw plan at c.count_lists-counts.ensures)
+    args.columns.now _ c.requires.3 c.count_lists-counts.result (rw plan at c.count_lists-counts.ensures)
     ∙ input-printed i b c.requires.0 t.0 n c.ragged_line-line.ensures in
     rw (sym printed) c.put_sheet.ensures

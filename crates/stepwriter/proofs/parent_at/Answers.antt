@@ -13,4 +13,4 @@ returns c =
     let locate = c.locate-at in
     let if1 = c.if-n-gate in
     parent_located c.args.text.now c.args.starts.at c.args.n c.args.r locate.ensures if1.false
-    c.line_at_lem.ensures c.parent_number.ensures
+    c.line_at.ensures c.parent_number.ensures

@@ -19,9 +19,9 @@ use Rattle.stepwriter.proofs.put_combination_step.Given as goal
 
 abbrev pub invariant-loop-j : goal.invariant-loop-j
 invariant-loop-j l =
-    (l.j ≤ l.initial.rest) × (length l.rest ≡ length l.text)
-    × (l.rest ≡ over (header (step_number (line_kind (fields l.region))) l.parent l.m (body_length (fields l.region))
-    ++ tab (operand_at (regions_at l.starts l.n.at l.line) (fields l.region)) l.j) l.text)
+    (l.j ≤ l.m) × (length l.rest ≡ length l.initial.rest)
+    × (l.rest ≡ over (header (step_number (line_kind (fields l.line))) l.region l.parent (body_length (fields l.line))
+    ++ tab (operand_at (regions_at l.text l.starts.at l.n) (fields l.line)) l.j) l.initial.rest)
 
 abbrev pub decreases-loop-j : goal.decreases-loop-j
-decreases-loop-j l = l.initial.rest - l.j
+decreases-loop-j l = l.m - l.j

@@ -22,7 +22,7 @@ returns-then-left-m c =
     let r = c.args.r in
     let head = c.loop-i in
     let loop-test = c.loop-i-test in
-    let line_at_lem = c.line_at_lem in
+    let line_at_lem = c.line_at in
     let here = not-ended t s head.i line_at_lem.ensures c.region_count-m.ensures r head.left head.invariant.0 c.if-left-m.true in
     located_as t s c.args.n r head.i head.left
     (head.invariant.2 ∙ first_stop (ends_before t s r) c.args.n head.i loop-test.true here) head.invariant.0
@@ -34,7 +34,7 @@ loop-i-preserved c =
     let r = c.args.r in
     let head = c.loop-i in
     let loop-test = c.loop-i-test in
-    let line_at_lem = c.line_at_lem in
+    let line_at_lem = c.line_at in
     let region-count = c.region_count-m in (
       next-left t s head.i line_at_lem.ensures region-count.ensures r head.left head.invariant.0 c.if-left-m.false,
       search rules,

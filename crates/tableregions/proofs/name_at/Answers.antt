@@ -16,4 +16,4 @@ returns c =
     let locate = c.locate-at in
     let if1 = c.if-n-gate in
     named-at c.args.text.now c.args.starts.at c.args.n c.args.r locate.ensures if1.false
-    c.line_at_lem.ensures c.region_name.ensures
+    c.line_at.ensures c.region_name.ensures

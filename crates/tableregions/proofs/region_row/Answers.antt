@@ -28,7 +28,7 @@ loop-k-preserved c =
     let number_of = c.number_of-number in
     let reference = c.reference in
     let head = c.loop-k in
-    let line_at_lem = c.line_at_lem in
+    let line_at_lem = c.line_at-line in
     let args = c.args in
     let rs = regions_at args.text.now args.starts.at args.n in (
       search rules,
@@ -42,7 +42,7 @@ returns c =
     let head = c.loop-k in
     let whole = c.loop-k-test.false in
     let reference-end = c.reference_end-end in
-    let line_at_lem = c.line_at_lem in
+    let line_at_lem = c.line_at-line in
     let inside = head.invariant.1 in
     let if1 = c.if-n-own in
     let locate = c.locate-at in

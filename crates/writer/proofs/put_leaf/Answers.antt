@@ -23,7 +23,7 @@ loop-i-preserved c =
     let a = c.args in (
       search rules,
       rw (c.put_word.ensures, to_z-of_z w32 _ (record { sfits = c.word_of.type_inv }), c.word_of.ensures, c.loop-i.invariant.1)
-          (tab-more (body_word_of (drop 1 (fields a.head.now)) (fields a.line.now) a.q) a.rest-1.now c.loop-i.i),
+          (tab-more (body_word_of (drop 1 (fields a.head.now)) (fields a.line.now) a.q) a.rest.now c.loop-i.i),
     )
 
 pub shape_of-rest : goal.shape_of-rest

@@ -15,7 +15,7 @@ use Rattle.gates.specs.Inner.Regions.{body_length, body_word_of}
 use Rattle.writer.proofs.put_leaf.Given as goal
 
 abbrev pub invariant-loop-i : goal.invariant-loop-i
-invariant-loop-i l = (l.i ≤ l.initial.rest) × (l.rest ≡ over (tab (body_word_of (drop 1 (fields l.line)) (fields l.q) l.n) l.i) l.head)
+invariant-loop-i l = (l.i ≤ l.n) × (l.rest ≡ over (tab (body_word_of (drop 1 (fields l.head)) (fields l.line) l.q) l.i) l.initial.rest)
 
 abbrev pub decreases-loop-i : goal.decreases-loop-i
-decreases-loop-i l = l.initial.rest - l.i
+decreases-loop-i l = l.n - l.i

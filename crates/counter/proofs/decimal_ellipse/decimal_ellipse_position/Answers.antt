@@ -87,28 +87,28 @@ pub overflow_mul-dx : goal.overflow_mul-dx
 overflow_mul-dx c = search (asks c)
 
 pub overflow_mul-p : goal.overflow_mul-p
-overflow_mul-p c = search (asks c.before)
+overflow_mul-p c = search (asks (goal.at.overflow_mul-p c).Start)
 
 pub overflow_mul-q-2 : goal.overflow_mul-q-2
-overflow_mul-q-2 c = search (asks c.before)
+overflow_mul-q-2 c = search (asks (goal.at.overflow_mul-q-2 c).Start)
 
 pub overflow_sub-p : goal.overflow_sub-p
-overflow_sub-p c = search (asks c.before)
+overflow_sub-p c = search (asks (goal.at.overflow_sub-p c).Start)
 
 pub overflow_mul-dy : goal.overflow_mul-dy
-overflow_mul-dy c = search (asks c.before)
+overflow_mul-dy c = search (asks (goal.at.overflow_mul-dy c).Start)
 
 pub overflow_cast-d2 : goal.overflow_cast-d2
-overflow_cast-d2 c = search (casts c.before.before.before)
+overflow_cast-d2 c = search (casts (goal.at.overflow_cast-d2 c).Start)
 
 pub overflow_mul-p-2 : goal.overflow_mul-p-2
-overflow_mul-p-2 c = search (asks c.before.before.before)
+overflow_mul-p-2 c = search (asks (goal.at.overflow_mul-p-2 c).Start)
 
 pub overflow_mul-q-3 : goal.overflow_mul-q-3
-overflow_mul-q-3 c = search (asks c.before.before.before)
+overflow_mul-q-3 c = search (asks (goal.at.overflow_mul-q-3 c).Start)
 
 pub overflow_sub-p-2 : goal.overflow_sub-p-2
-overflow_sub-p-2 c = search (asks c.before.before.before)
+overflow_sub-p-2 c = search (asks (goal.at.overflow_sub-p-2 c).Start)
 
 pub returns : goal.returns
 unfolding decimal_ellipse_position
@@ -116,8 +116,8 @@ returns c =
     let a = c.args in
     let l =
     plus-is c.plus-left.ensures c.times.ensures c.times-2.ensures
-    ∙ sum-gives c (known c.before.before.before.before.before.before) L tt
+    ∙ sum-gives c (known (goal.at.returns c).Start) L tt
     ∙ solve (values w64 c) (flat L) F tt in
-    let r = c.times-right.ensures ∙ sum-gives c (known c.before.before.before.before.before.before) R tt in
+    let r = c.times-right.ensures ∙ sum-gives c (known (goal.at.returns c).Start) R tt in
     c.position_by.ensures ∙ ap position_by (c.compare.ensures ∙ ap₂ order_of l r)
     ∙ order_sides (decimal_left a.m1 a.m2 a.c11 a.c12 a.c22 a.x a.y) (decimal_right a.c11 a.c12 a.c22 a.d2)

@@ -111,20 +111,20 @@ overflow_mul-limit-3 c = search (asks c)
 pub returns-then-form-limit : goal.returns-then-form-limit
 unfolding ellipse_position
 returns-then-form-limit c =
-    let l = zgives w64 c (known c.before) L tt in
-    let r = zgives w64 c (known c.before) R tt in
+    let l = zgives w64 c (known (goal.at.returns-then-form-limit c).Start) L tt in
+    let r = zgives w64 c (known (goal.at.returns-then-form-limit c).Start) R tt in
     sides_less c c (sym (ap₂ lt_z l r) ∙ c.if-form-limit.true)
 
 pub returns-then-limit-form : goal.returns-then-limit-form
 unfolding ellipse_position
 returns-then-limit-form c =
-    let l = zgives w64 c (known c.before.before) L tt in
-    let r = zgives w64 c (known c.before.before) R tt in
+    let l = zgives w64 c (known (goal.at.returns-then-limit-form c).Start) L tt in
+    let r = zgives w64 c (known (goal.at.returns-then-limit-form c).Start) R tt in
     sides_more c c (sym (ap₂ lt_z r l) ∙ c.if-limit-form.true)
 
 pub returns : goal.returns
 unfolding ellipse_position
 returns c =
-    let l = zgives w64 c (known c.before.before) L tt in
-    let r = zgives w64 c (known c.before.before) R tt in
+    let l = zgives w64 c (known (goal.at.returns c).Start) L tt in
+    let r = zgives w64 c (known (goal.at.returns c).Start) R tt in
     sides_equal c c (sym (ap₂ lt_z l r) ∙ c.if-form-limit.false) (sym (ap₂ lt_z r l) ∙ c.if-limit-form.false)

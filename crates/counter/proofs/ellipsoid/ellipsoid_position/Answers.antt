@@ -165,85 +165,85 @@ pub overflow_sub-dx-2 : goal.overflow_sub-dx-2
 overflow_sub-dx-2 c = search (asks c w11 tt)
 
 pub overflow_mul-p : goal.overflow_mul-p
-overflow_mul-p c = search (asks c.before w22 tt)
+overflow_mul-p c = search (asks (goal.at.overflow_mul-p c).Start w22 tt)
 
 pub overflow_mul-r : goal.overflow_mul-r
-overflow_mul-r c = search (asks c.before w22 tt)
+overflow_mul-r c = search (asks (goal.at.overflow_mul-r c).Start w22 tt)
 
 pub overflow_sub-p : goal.overflow_sub-p
-overflow_sub-p c = search (asks c.before w22 tt)
+overflow_sub-p c = search (asks (goal.at.overflow_sub-p c).Start w22 tt)
 
 pub overflow_mul-dy : goal.overflow_mul-dy
-overflow_mul-dy c = search (asks c.before w22 tt)
+overflow_mul-dy c = search (asks (goal.at.overflow_mul-dy c).Start w22 tt)
 
 pub overflow_mul-p-2 : goal.overflow_mul-p-2
-overflow_mul-p-2 c = search (asks c.before.before w33 tt)
+overflow_mul-p-2 c = search (asks (goal.at.overflow_mul-p-2 c).Start w33 tt)
 
 pub overflow_mul-q : goal.overflow_mul-q
-overflow_mul-q c = search (asks c.before.before w33 tt)
+overflow_mul-q c = search (asks (goal.at.overflow_mul-q c).Start w33 tt)
 
 pub overflow_sub-p-2 : goal.overflow_sub-p-2
-overflow_sub-p-2 c = search (asks c.before.before w33 tt)
+overflow_sub-p-2 c = search (asks (goal.at.overflow_sub-p-2 c).Start w33 tt)
 
 pub overflow_mul-dz : goal.overflow_mul-dz
-overflow_mul-dz c = search (asks c.before.before w33 tt)
+overflow_mul-dz c = search (asks (goal.at.overflow_mul-dz c).Start w33 tt)
 
 pub overflow_mul-r-2 : goal.overflow_mul-r-2
-overflow_mul-r-2 c = search (asks c.before.before.before w12 tt)
+overflow_mul-r-2 c = search (asks (goal.at.overflow_mul-r-2 c).Start w12 tt)
 
 pub overflow_mul-q-2 : goal.overflow_mul-q-2
-overflow_mul-q-2 c = search (asks c.before.before.before w12 tt)
+overflow_mul-q-2 c = search (asks (goal.at.overflow_mul-q-2 c).Start w12 tt)
 
 pub overflow_sub-r : goal.overflow_sub-r
-overflow_sub-r c = search (asks c.before.before.before w12 tt)
+overflow_sub-r c = search (asks (goal.at.overflow_sub-r c).Start w12 tt)
 
 pub overflow_mul-dx-2 : goal.overflow_mul-dx-2
-overflow_mul-dx-2 c = search (asks c.before.before.before w12 tt)
+overflow_mul-dx-2 c = search (asks (goal.at.overflow_mul-dx-2 c).Start w12 tt)
 
 pub overflow_mul-dx-3 : goal.overflow_mul-dx-3
-overflow_mul-dx-3 c = search (asks c.before.before.before w12 tt)
+overflow_mul-dx-3 c = search (asks (goal.at.overflow_mul-dx-3 c).Start w12 tt)
 
 pub overflow_mul-d-2 : goal.overflow_mul-d-2
-overflow_mul-d-2 c = search (asks c.before.before.before w12 tt)
+overflow_mul-d-2 c = search (asks (goal.at.overflow_mul-d-2 c).Start w12 tt)
 
 pub overflow_sub-dx-3 : goal.overflow_sub-dx-3
-overflow_sub-dx-3 c = search (asks c.before.before.before w12 tt)
+overflow_sub-dx-3 c = search (asks (goal.at.overflow_sub-dx-3 c).Start w12 tt)
 
 pub overflow_mul-q-3 : goal.overflow_mul-q-3
-overflow_mul-q-3 c = search (asks c.before.before.before.before w13 tt)
+overflow_mul-q-3 c = search (asks (goal.at.overflow_mul-q-3 c).Start w13 tt)
 
 pub overflow_mul-r-3 : goal.overflow_mul-r-3
-overflow_mul-r-3 c = search (asks c.before.before.before.before w13 tt)
+overflow_mul-r-3 c = search (asks (goal.at.overflow_mul-r-3 c).Start w13 tt)
 
 pub overflow_sub-q : goal.overflow_sub-q
-overflow_sub-q c = search (asks c.before.before.before.before w13 tt)
+overflow_sub-q c = search (asks (goal.at.overflow_sub-q c).Start w13 tt)
 
 pub overflow_mul-dx-4 : goal.overflow_mul-dx-4
-overflow_mul-dx-4 c = search (asks c.before.before.before.before w13 tt)
+overflow_mul-dx-4 c = search (asks (goal.at.overflow_mul-dx-4 c).Start w13 tt)
 
 pub overflow_mul-dx-5 : goal.overflow_mul-dx-5
-overflow_mul-dx-5 c = search (asks c.before.before.before.before w13 tt)
+overflow_mul-dx-5 c = search (asks (goal.at.overflow_mul-dx-5 c).Start w13 tt)
 
 pub overflow_mul-d-3 : goal.overflow_mul-d-3
-overflow_mul-d-3 c = search (asks c.before.before.before.before w13 tt)
+overflow_mul-d-3 c = search (asks (goal.at.overflow_mul-d-3 c).Start w13 tt)
 
 pub overflow_sub-dx-4 : goal.overflow_sub-dx-4
-overflow_sub-dx-4 c = search (asks c.before.before.before.before w13 tt)
+overflow_sub-dx-4 c = search (asks (goal.at.overflow_sub-dx-4 c).Start w13 tt)
 
 pub overflow_mul-q-4 : goal.overflow_mul-q-4
-overflow_mul-q-4 c = search (asks c.before.before.before.before.before w23 tt)
+overflow_mul-q-4 c = search (asks (goal.at.overflow_mul-q-4 c).Start w23 tt)
 
 pub overflow_mul-p-3 : goal.overflow_mul-p-3
-overflow_mul-p-3 c = search (asks c.before.before.before.before.before w23 tt)
+overflow_mul-p-3 c = search (asks (goal.at.overflow_mul-p-3 c).Start w23 tt)
 
 pub overflow_sub-q-2 : goal.overflow_sub-q-2
-overflow_sub-q-2 c = search (asks c.before.before.before.before.before w23 tt)
+overflow_sub-q-2 c = search (asks (goal.at.overflow_sub-q-2 c).Start w23 tt)
 
 pub overflow_mul-dy-2 : goal.overflow_mul-dy-2
-overflow_mul-dy-2 c = search (asks c.before.before.before.before.before w23 tt)
+overflow_mul-dy-2 c = search (asks (goal.at.overflow_mul-dy-2 c).Start w23 tt)
 
 pub overflow_mul-dy-3 : goal.overflow_mul-dy-3
-overflow_mul-dy-3 c = search (asks c.before.before.before.before.before w23 tt)
+overflow_mul-dy-3 c = search (asks (goal.at.overflow_mul-dy-3 c).Start w23 tt)
 
 pub returns : goal.returns
 unfolding ellipsoid_position
@@ -256,7 +256,7 @@ returns c =
     let others = plus-is c.plus-4.ensures next-two c.times-w23.ensures in
     let sum =
     plus-is c.plus-sum.ensures squares others
-    ∙ sum-gives c (known c.before.before.before.before.before.before.before.before.before.before.before.before.before.before) all tt
+    ∙ sum-gives c (known (goal.at.returns c).Start) all tt
     ∙ gathered-is matrix (a.x -ℤ a.m1) (a.y -ℤ a.m2) (a.z -ℤ a.m3) a.d2 in
     let left = ellipsoid_left a.m1 a.m2 a.m3 matrix a.x a.y a.z in
     let right = ellipsoid_right matrix a.d2 in

@@ -14,7 +14,7 @@ use borrow.Author.Rules.{rules}
 use Rattle.counter.proofs.groups.bump.Given as goal
 
 abbrev pub invariant-loop-r : goal.invariant-loop-r
-invariant-loop-r l = (l.r ≤ l.initial.counts) × (l.counts ≡ list_from (bump_at l.sets (in_set l.e l.m)) 0 l.r ++ drop l.r l.sets)
+invariant-loop-r l = (l.r ≤ l.m) × (l.counts ≡ list_from (bump_at l.initial.counts (in_set l.sets l.e)) 0 l.r ++ drop l.r l.initial.counts)
 
 abbrev pub decreases-loop-r : goal.decreases-loop-r
-decreases-loop-r l = l.initial.counts - l.r
+decreases-loop-r l = l.m - l.r

@@ -72,10 +72,10 @@ region-small c =
     omega arith
 
 pub settle-members-requires : goal.settle-members-requires
-settle-members-requires c = region-small c.before.before
+settle-members-requires c = region-small (goal.at.settle-members-requires c).After-number_in-region
 
 pub settle-outline-requires : goal.settle-outline-requires
-settle-outline-requires c = region-small c.before.before.before
+settle-outline-requires c = region-small (goal.at.settle-outline-requires c).After-number_in-region
 
 -- after both sets are raised
 module _ (c : After-settle-outline) where

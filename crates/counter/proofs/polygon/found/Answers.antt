@@ -26,7 +26,7 @@ pub returns-in-Carried : goal.returns-in-Carried
 returns-in-Carried c = let on : OnOutline ≡ found c.args.walked = rw c.in-Carried.is in on
 
 pub returns-then-sum-eq0 : goal.returns-then-sum-eq0
-returns-then-sum-eq0 c = rw (c.in-Summed.is, sym (test-is c.before) ∙ eq-eqb _ _ c.if-sum-eq0.true)
+returns-then-sum-eq0 c = rw (c.in-Summed.is, sym (test-is (goal.at.returns-then-sum-eq0 c).In-Summed) ∙ eq-eqb _ _ c.if-sum-eq0.true)
 
 pub returns-else-sum-eq0 : goal.returns-else-sum-eq0
-returns-else-sum-eq0 c = rw (c.in-Summed.is, sym (test-is c.before) ∙ ne_eqb _ _ c.if-sum-eq0.false)
+returns-else-sum-eq0 c = rw (c.in-Summed.is, sym (test-is (goal.at.returns-else-sum-eq0 c).In-Summed) ∙ ne_eqb _ _ c.if-sum-eq0.false)

@@ -19,10 +19,10 @@ pub returns-then-above : goal.returns-then-above
 unfolding four_beyond beyond
 returns-then-above c =
     let i = c.args.i in
-    simp (to_z-of_z, c.ranges.y, height c.before.before.before.before.before (i + 1), height c.before.before.before.before.before (i + 3), height c.before.before.before.before.before (i + 5), height c.before.before.before.before.before (i + 7)) (rw c.if-above.true)
+    simp (to_z-of_z, c.ranges.y, height (goal.at.returns-then-above c).Start (i + 1), height (goal.at.returns-then-above c).Start (i + 3), height (goal.at.returns-then-above c).Start (i + 5), height (goal.at.returns-then-above c).Start (i + 7)) (rw c.if-above.true)
 
 pub returns-else-above : goal.returns-else-above
 unfolding four_beyond beyond
 returns-else-above c =
     let i = c.args.i in
-    simp (to_z-of_z, c.ranges.y, height c.before.before.before.before.before (i + 1), height c.before.before.before.before.before (i + 3), height c.before.before.before.before.before (i + 5), height c.before.before.before.before.before (i + 7)) (rw c.if-above.false)
+    simp (to_z-of_z, c.ranges.y, height (goal.at.returns-else-above c).Start (i + 1), height (goal.at.returns-else-above c).Start (i + 3), height (goal.at.returns-else-above c).Start (i + 5), height (goal.at.returns-else-above c).Start (i + 7)) (rw c.if-above.false)

@@ -32,8 +32,8 @@ module _ (b : At) where
   abbrev py : ℤ
   py = b.before.args.y
 
-  holds : walked vs px py (b.loop-i.i / 2) ≡ Summed (to_z w64 b.loop-i.sum-bits)
-  holds = simp (to_z-of_z, b.before.fits.x, b.before.fits.y) at b.loop-i.inv.0
+  holds : walked vs px py (b.loop.i / 2) ≡ Summed (to_z w64 b.loop.sum)
+  holds = simp (to_z-of_z, b.before.fits.x, b.before.fits.y) at b.loop.inv.0
 
 pub loop-i-init : goal.loop-i-init
 loop-i-init c = (walked_start c.args.v.now (to_z w32 (of_z w32 c.args.x)) (to_z w32 (of_z w32 c.args.y)), refl, omega arith, Fits-lit tt)
@@ -54,7 +54,7 @@ walk-requires c =
     simp (to_z-of_z, c.ranges.x, c.ranges.y) (
       c.requires.0,
       c.requires.1,
-      (passed-by c.before).same (c.run_end-start.result / 2) (let f = (passed-by c.before).from in omega arith) (omega arith) (px c) ∙ holds c,
+      (passed-by (goal.at.walk-requires c).After-run_end-start).same (c.run_end-start.result / 2) (let f = (passed-by (goal.at.walk-requires c).After-run_end-start).from in omega arith) (omega arith) (px c) ∙ holds c,
       c.stretch_end-end.ensures,
     )
 
@@ -70,11 +70,11 @@ returns-in-Carried c =
     let k = c.stretch_end-end.result / 2 in
     let m = length (vs c) / 2 - k in
     let q : k + m ≡ length (vs c) / 2 = omega arith in
-    sym (ap (walked (vs c) (px c) (py c)) (sym q) ∙ walked-carried (vs c) (px c) (py c) k m (sym (walk_is c.before.before) ∙ c.in-Carried.is))
+    sym (ap (walked (vs c) (px c) (py c)) (sym q) ∙ walked-carried (vs c) (px c) (py c) k m (sym (walk_is (goal.at.returns-in-Carried c).After-walk) ∙ c.in-Carried.is))
 
 pub loop-i-smaller : goal.loop-i-smaller
 loop-i-smaller c =
-    let p = (passed-by c.before.before.before.before.before).from in
+    let p = (passed-by (goal.at.loop-i-smaller c).After-run_end-start).from in
     let stretch = c.stretch_end-end.ensures in
     let t = stretch.to in
     let l = c.loop-i-test.true in
@@ -89,7 +89,7 @@ loop-i-preserved c =
     let f = c.ranges in
     let stretch = c.stretch_end-end.ensures in
     let t = stretch.to in
-    let now-holds = sym (walk_is c.before.before.before) ∙ c.in-Summed.is in
+    let now-holds = sym (walk_is (goal.at.loop-i-preserved c).After-walk) ∙ c.in-Summed.is in
     let fits = fit-below {w = w64} (omega arith) (walked_in (vs c) (px c) (py c) (c.stretch_end-end.result / 2) _ now-holds) in
     simp (to_z-of_z, f.x, f.y, fits) (now-holds, stretch.end_even, t, Fits-of_z fits)
 

@@ -35,20 +35,20 @@ pub overflow_cast-right : goal.overflow_cast-right
 overflow_cast-right c = search (asks c)
 
 pub overflow_cast-right-2 : goal.overflow_cast-right-2
-overflow_cast-right-2 c = search (asks c.before)
+overflow_cast-right-2 c = search (asks (goal.at.overflow_cast-right-2 c).Start)
 
 pub overflow_sub-right : goal.overflow_sub-right
-overflow_sub-right c = search (asks c.before)
+overflow_sub-right c = search (asks (goal.at.overflow_sub-right c).Start)
 
 pub overflow_cast-up : goal.overflow_cast-up
-overflow_cast-up c = search (asks c.before)
+overflow_cast-up c = search (asks (goal.at.overflow_cast-up c).Start)
 
 pub overflow_cast-up-2 : goal.overflow_cast-up-2
-overflow_cast-up-2 c = search (asks c.before.before)
+overflow_cast-up-2 c = search (asks (goal.at.overflow_cast-up-2 c).Start)
 
 pub overflow_sub-up : goal.overflow_sub-up
-overflow_sub-up c = search (asks c.before.before)
+overflow_sub-up c = search (asks (goal.at.overflow_sub-up c).Start)
 
 pub returns : goal.returns
 returns c =
-    record { right_is = zgives w64 c (known c.before.before) Right tt; up_is = zgives w64 c (known c.before.before) Up tt }
+    record { right_is = zgives w64 c (known (goal.at.returns c).Start) Right tt; up_is = zgives w64 c (known (goal.at.returns c).Start) Up tt }

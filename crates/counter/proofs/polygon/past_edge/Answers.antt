@@ -53,22 +53,22 @@ line c = sym (test-is c.before) ∙ eq-eqb _ _ c.if-s-eq0.true
 pub returns-then-between-2 : goal.returns-then-between-2
 returns-then-between-2 c =
     let args = c.args in
-    edge_carries args.a args.b args.sum c.side-s.result c.side-s.ensures (line c.before.before.before.before.before.before.before.before)
-    (sym (right_is c.before.before.before.before.before) ∙ c.if-between.true) (sym (up_is c.before) ∙ c.if-between-2.true)
+    edge_carries args.a args.b args.sum c.side-s.result c.side-s.ensures (line (goal.at.returns-then-between-2 c).Then-s-eq0)
+    (sym (right_is (goal.at.returns-then-between-2 c).After-between) ∙ c.if-between.true) (sym (up_is (goal.at.returns-then-between-2 c).After-between-then-between) ∙ c.if-between-2.true)
 
 pub returns-else-between-2 : goal.returns-else-between-2
 returns-else-between-2 c =
     let args = c.args in
     simp (to_z-of_z, c.ranges.sum)
-    (edge_on_line args.a args.b args.sum c.side-s.result c.side-s.ensures (line c.before.before.before.before.before.before.before.before)
-    (rw (sym (up_is c.before) ∙ c.if-between-2.false) (and_false (between args.a.right args.b.right (pos 0)))))
+    (edge_on_line args.a args.b args.sum c.side-s.result c.side-s.ensures (line (goal.at.returns-else-between-2 c).Then-s-eq0)
+    (rw (sym (up_is (goal.at.returns-else-between-2 c).After-between-then-between) ∙ c.if-between-2.false) (and_false (between args.a.right args.b.right (pos 0)))))
 
 pub returns-else-between : goal.returns-else-between
 returns-else-between c =
     let args = c.args in
     simp (to_z-of_z, c.ranges.sum)
-    (edge_on_line args.a args.b args.sum c.side-s.result c.side-s.ensures (line c.before.before.before.before)
-    (rw (sym (right_is c.before) ∙ c.if-between.false)))
+    (edge_on_line args.a args.b args.sum c.side-s.result c.side-s.ensures (line (goal.at.returns-else-between c).Then-s-eq0)
+    (rw (sym (right_is (goal.at.returns-else-between c).After-between) ∙ c.if-between.false)))
 
 -- what `turn` answers, of the side itself
 turn_is : (c : After-turn)
@@ -88,4 +88,4 @@ returns c =
     let s = c.side-s in
     simp (to_z-of_z, c.ranges.sum, ok64 c.turn.result c.turn.type_inv, sum_fits c)
     (rw (turn_is c)
-    (edge_aside args.a args.b args.sum s.result s.ensures (sym (test-is c.before.before) ∙ ne_eqb _ _ c.if-s-eq0.false)))
+    (edge_aside args.a args.b args.sum s.result s.ensures (sym (test-is (goal.at.returns c).After-side-s) ∙ ne_eqb _ _ c.if-s-eq0.false)))

@@ -23,13 +23,13 @@ asks : (c : Start) → Needs w64 c E
 asks c = zneeds w64 c (known c) E tt
 
 pub overflow_mul-result : goal.overflow_mul-result
-overflow_mul-result c = search (asks c.before.before.before.before)
+overflow_mul-result c = search (asks (goal.at.overflow_mul-result c).Start)
 
 pub overflow_mul-result-2 : goal.overflow_mul-result-2
-overflow_mul-result-2 c = search (asks c.before.before.before.before.before.before.before.before)
+overflow_mul-result-2 c = search (asks (goal.at.overflow_mul-result-2 c).Start)
 
 pub overflow_sub-result : goal.overflow_sub-result
-overflow_sub-result c = search (asks c.before.before.before.before.before.before.before.before)
+overflow_sub-result c = search (asks (goal.at.overflow_sub-result c).Start)
 
 pub returns : goal.returns
-returns c = zgives w64 c (known c.before.before.before.before.before.before.before.before) E tt
+returns c = zgives w64 c (known (goal.at.returns c).Start) E tt

@@ -86,7 +86,7 @@ module _ (c : After-offset_of-next) where
 
 pub past_edge-requires : goal.past_edge-requires
 past_edge-requires c =
-    let l = vertex-there c.before in
+    let l = vertex-there (goal.at.past_edge-requires c).In-loop-i in
     let few = (walked_in (v c) (x c) (y c) (i c / 2) _ (before_it c)).abs in
     (near c (vertex_before (length (v c)) (i c)) (last-seen c), near c (i c) (next-seen c), record { abs = omega arith })
 
@@ -109,23 +109,23 @@ returns-in-Carried c =
     let k = (i c + 2) / 2 in
     let m = c.args.end / 2 - k in
     let q : k + m ≡ c.args.end / 2 = omega arith in
-    sym (ap (walked (v c) (x c) (y c)) (sym q) ∙ walked-carried (v c) (x c) (y c) k m (past-it c.before.before ∙ c.in-Carried.is))
+    sym (ap (walked (v c) (x c) (y c)) (sym q) ∙ walked-carried (v c) (x c) (y c) k m (past-it (goal.at.returns-in-Carried c).After-past_edge ∙ c.in-Carried.is))
 
 pub overflow_add-i : goal.overflow_add-i
-overflow_add-i c = let l = vertex-there c.before.before.before.before.before in omega arith
+overflow_add-i c = let l = vertex-there (goal.at.overflow_add-i c).In-loop-i in omega arith
 
 pub loop-i-smaller : goal.loop-i-smaller
 loop-i-smaller c = let l = c.loop-i-test.true in omega arith
 
 pub loop-i-preserved : goal.loop-i-preserved
 loop-i-preserved c =
-    let l = vertex-there c.before.before.before.before.before in
+    let l = vertex-there (goal.at.loop-i-preserved c).In-loop-i in
     let t = c.loop-i-test.true in
     let f = c.ranges in
     let from = c.loop-i.invariant.2 in
     let even = c.loop-i.invariant.4 in
     let end_even = c.requires.3.end_even in
-    let holds = past-it c.before.before.before ∙ c.in-Summed.is in
+    let holds = past-it (goal.at.loop-i-preserved c).After-past_edge ∙ c.in-Summed.is in
     let fits = fit-below {w = w64} (omega arith) (walked_in (v c) (x c) (y c) ((i c + 2) / 2) _ holds) in
     simp (to_z-of_z, f.x, f.y, fits) (
       holds,

@@ -44,7 +44,7 @@ bounds-plan-at c = let h = four-inside c.requires.1 in omega arith
 pub returns-then-not-in_parent : goal.returns-then-not-in_parent
 returns-then-not-in_parent c =
     let args = c.args in
-    step_out args.plan.now args.event.now args.bits args.at c.requires.1 (parent c.before.before) c.in_parent_lem.ensures
+    step_out args.plan.now args.event.now args.bits args.at c.requires.1 (parent (goal.at.returns-then-not-in_parent c).After-parent_of) c.in_parent.ensures
     (not-true _ c.if-not-in_parent.true-raw)
 
 pub step_at-step-requires : goal.step_at-step-requires
@@ -79,12 +79,12 @@ decoded_position-requires c =
       pre.0,
       pre.1.narrow,
       step-shaped args.plan.now args.event.now args.bits args.at pre.1 c.step_at-step.ensures
-          (body_is args.plan.now args.at (header c.before)),
+          (body_is args.plan.now args.at (header (goal.at.decoded_position-requires c).After-head_of-head)),
     )
 
 pub returns : goal.returns
 returns c =
     let args = c.args in
-    step_in_lem args.plan.now args.event.now args.bits args.at c.requires.1 (parent c.before.before.before.before.before.before)
-    c.in_parent_lem.ensures (not-false _ c.if-not-in_parent.false-raw)
-    c.step_at-step.ensures (body_is args.plan.now args.at (header c.before.before)) c.decoded_position.ensures
+    step_in_lem args.plan.now args.event.now args.bits args.at c.requires.1 (parent (goal.at.returns c).After-parent_of)
+    c.in_parent.ensures (not-false _ c.if-not-in_parent.false-raw)
+    c.step_at-step.ensures (body_is args.plan.now args.at (header (goal.at.returns c).After-head_of-head)) c.decoded_position.ensures

@@ -22,8 +22,8 @@ loop-k-preserved c =
     let a = c.args in (
       loop.invariant.0,
       omega arith,
-      rw (c.put_value.ensures, loop.invariant.2, c.read_number_lem.ensures, c.field.ensures)
-          (line-more a.line.now a.rest-1.now loop.k (omega arith)),
+      rw (c.put_value.ensures, loop.invariant.2, c.read_number.ensures, c.field.ensures)
+          (line-more a.line.now a.rest.now loop.k (omega arith)),
     )
 
 pub shape_of-rest : goal.shape_of-rest

@@ -13,7 +13,7 @@ use Rattle.events.proofs.ListingLaws.{line-more, line_kept-length}
 use Rattle.events.proofs.listing.put_line.Given as goal
 
 abbrev pub invariant-loop-k : goal.invariant-loop-k
-invariant-loop-k l = (l.initial.rest ≡ length (fields l.n)) × (l.k ≤ l.initial.rest) × (l.rest ≡ over (take l.k (line_kept l.n)) l.line)
+invariant-loop-k l = (l.n ≡ length (fields l.line)) × (l.k ≤ l.n) × (l.rest ≡ over (take l.k (line_kept l.line)) l.initial.rest)
 
 abbrev pub decreases-loop-k : goal.decreases-loop-k
-decreases-loop-k l = l.initial.rest - l.k
+decreases-loop-k l = l.n - l.k

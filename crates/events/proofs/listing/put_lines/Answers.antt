@@ -22,7 +22,7 @@ overflow_add-m c =
     let a = c.args in
     omega (
       arith,
-      few_more a.part.now a.list-1.now loop.at loop.m loop.invariant c.loop-at-test.true
+      few_more a.part.now a.list.now loop.at loop.m loop.invariant c.loop-at-test.true
           (rw c.line_from.ensures at c.put_line_from-c.ensures.0),
       found_inside a.part.now loop.at 10 c.find-at.ensures (omega arith),
     )

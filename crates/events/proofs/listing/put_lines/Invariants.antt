@@ -10,7 +10,7 @@ use Rattle.events.proofs.ListingLaws.{Filled, filled_none, few_more, filled_more
 use Rattle.events.proofs.listing.put_lines.Given as goal
 
 abbrev pub invariant-loop-at : goal.invariant-loop-at
-invariant-loop-at l = Filled l.initial.list l.part l.at l.m l.list
+invariant-loop-at l = Filled l.part l.initial.list l.at l.m l.list
 
 abbrev pub decreases-loop-at : goal.decreases-loop-at
-decreases-loop-at l = length l.initial.list - l.at
+decreases-loop-at l = length l.part - l.at

@@ -16,4 +16,4 @@ overflow_add-result c =
 pub returns : goal.returns
 returns c =
     let a = c.args in
-    count-written a.rest-1.now a.name.now a.count c.put_bytes-a.ensures c.put_field_from.ensures c.put_bytes_from.ensures
+    count-written a.rest.now a.name.now a.count c.put_bytes-a.ensures c.put_field_from.ensures c.put_bytes_from.ensures

@@ -13,4 +13,4 @@ overflow_add-result c =
 pub returns : goal.returns
 returns c =
     let a = c.args in
-    written-more _ a.rest-1.now (decimal a.x) c.put_bytes-a.ensures c.put_number_from.ensures
+    written-more _ a.rest.now (decimal a.x) c.put_bytes-a.ensures c.put_number_from.ensures

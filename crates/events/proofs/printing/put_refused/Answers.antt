@@ -25,5 +25,5 @@ pub returns : goal.returns
 unfolding refused_line
 returns c =
     let a = c.args in
-    refused-written a.rest-1.now (bytes "refused") a.number c.put_bytes-a.ensures c.put_field_from.ensures
+    refused-written a.rest.now (bytes "refused") a.number c.put_bytes-a.ensures c.put_field_from.ensures
     a.place c.put_field_from-2.ensures c.put_bytes_from.ensures

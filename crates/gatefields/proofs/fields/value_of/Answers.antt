@@ -8,4 +8,4 @@ use Rattle.gatefields.proofs.fields.value_of.Goals as goal
 
 pub returns : goal.returns
 unfolding value_of
-returns c = rw (to_z-of_z w32 _ (record { sfits = c.kept.type_inv }), c.kept.ensures, c.read_number_lem.ensures, kept_read)
+returns c = rw (to_z-of_z w32 _ (record { sfits = c.kept.type_inv }), c.kept.ensures, c.read_number.ensures, kept_read)

@@ -10,4 +10,4 @@ returns-then-becomes c =
 
 pub returns : goal.returns
 returns c =
-    rw (← c.becomes.ensures, c.if-becomes.false, to_z-of_z w32 _ (record { sfits = c.value_of_lem.type_inv })) c.value_of_lem.ensures
+    rw (← c.becomes.ensures, c.if-becomes.false, to_z-of_z w32 _ (record { sfits = c.value_of.type_inv })) c.value_of.ensures

@@ -8,13 +8,13 @@ pub returns : goal.returns
 returns c =
     rw (
       c.matrix3_good.ensures,
-      to_z-of_z w32 _ (record { sfits = c.value_of_lem.type_inv }),
+      to_z-of_z w32 _ (record { sfits = c.value_of.type_inv }),
       to_z-of_z w32 _ (record { sfits = c.value_of-2.type_inv }),
       to_z-of_z w32 _ (record { sfits = c.value_of-3.type_inv }),
       to_z-of_z w32 _ (record { sfits = c.value_of-4.type_inv }),
       to_z-of_z w32 _ (record { sfits = c.value_of-5.type_inv }),
       to_z-of_z w32 _ (record { sfits = c.value_of-6.type_inv }),
-      c.value_of_lem.ensures,
+      c.value_of.ensures,
       c.value_of-2.ensures,
       c.value_of-3.ensures,
       c.value_of-4.ensures,

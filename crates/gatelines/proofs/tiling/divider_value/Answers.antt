@@ -13,4 +13,4 @@ unfolding divider_value
 returns c =
     let args = c.args in
     let e : min args.t 3 ≡ args.t = omega arith in
-    rw (to_z-of_z w32 _ (record { sfits = c.value_of_lem.type_inv }), c.value_of_lem.ensures, c.field.ensures, c.divider_at.ensures.0, e)
+    rw (to_z-of_z w32 _ (record { sfits = c.value_of.type_inv }), c.value_of.ensures, c.field.ensures, c.divider_at.ensures.0, e)

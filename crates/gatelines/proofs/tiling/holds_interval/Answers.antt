@@ -19,8 +19,8 @@ unfolding holds_interval
 returns c =
     rw (
       c.interval.ensures.0,
-      to_z-of_z w32 _ (record { sfits = c.value_of_lem.type_inv }),
-      c.value_of_lem.ensures,
+      to_z-of_z w32 _ (record { sfits = c.value_of.type_inv }),
+      c.value_of.ensures,
       c.is_star.ensures,
       c.representative-x.ensures,
     )

@@ -21,4 +21,4 @@ pub returns : goal.returns
 unfolding axes_word
 returns c =
     let a = c.args in
-    rw (le-ltb a.i a.many c.if-i-many.false, to_z-of_z w32 _ (record { sfits = c.value_of_lem.type_inv }), c.value_of_lem.ensures, c.field-x.ensures)
+    rw (le-ltb a.i a.many c.if-i-many.false, to_z-of_z w32 _ (record { sfits = c.value_of.type_inv }), c.value_of.ensures, c.field-x.ensures)

@@ -11,4 +11,4 @@ returns-then-is_star c = rw (← c.is_star.ensures, c.if-is_star.true)
 
 pub returns : goal.returns
 unfolding min_word
-returns c = rw (to_z-of_z w32 _ (record { sfits = c.value_of_lem.type_inv }), c.value_of_lem.ensures, ← c.is_star.ensures, c.if-is_star.false)
+returns c = rw (to_z-of_z w32 _ (record { sfits = c.value_of.type_inv }), c.value_of.ensures, ← c.is_star.ensures, c.if-is_star.false)

@@ -31,6 +31,6 @@ returns c =
       to_z-of_z w32 _ (record { sfits = c.lower_end.type_inv }),
       c.lower_end.ensures,
       c.interval.ensures.0,
-      to_z-of_z w32 _ (record { sfits = c.value_of_lem.type_inv }),
-      c.value_of_lem.ensures,
+      to_z-of_z w32 _ (record { sfits = c.value_of.type_inv }),
+      c.value_of.ensures,
     )

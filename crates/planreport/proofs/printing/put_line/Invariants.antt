@@ -16,7 +16,7 @@ use Rattle.planreport.proofs.TextLaws.{line-ended, ended-more, ended-none}
 use Rattle.planreport.proofs.printing.put_line.Given as goal
 
 abbrev pub invariant-loop-i : goal.invariant-loop-i
-invariant-loop-i l = (l.i ≤ length l.initial.rest) × (l.at ≤ 22 * l.i) × Progress (ended_words l.initial.rest) l.words l.at l.rest (ended_words (drop l.i l.initial.rest))
+invariant-loop-i l = (l.i ≤ length l.words) × (l.at ≤ 22 * l.i) × Progress (ended_words l.words) l.initial.rest l.at l.rest (ended_words (drop l.i l.words))
 
 abbrev pub decreases-loop-i : goal.decreases-loop-i
-decreases-loop-i l = length l.initial.rest - l.i
+decreases-loop-i l = length l.words - l.i

@@ -21,14 +21,14 @@ kind-told c = ap (λ (k : ℕ). eqb k 8) (sym c.kind_number.ensures)
 
 pub returns-then-kind_number-eq8 : goal.returns-then-kind_number-eq8
 returns-then-kind_number-eq8 c =
-    c.ellipsoid_run.ensures ∙ ellipsoid-run-is _ _ _ _ c.args.kind (kind-told c.before.before ∙ eq-eqb _ _ c.if-kind_number-eq8.true)
+    c.ellipsoid_run.ensures ∙ ellipsoid-run-is _ _ _ _ c.args.kind (kind-told (goal.at.returns-then-kind_number-eq8 c).After-kind_number ∙ eq-eqb _ _ c.if-kind_number-eq8.true)
 
 pub loop-i-init : goal.loop-i-init
 unfolding body_run
 loop-i-init c = (search rules, rw sub-zero)
 
 pub body_word-requires : goal.body_word-requires
-body_word-requires c = (search rules, kind-told c.before.before.before ∙ ne_eqb _ _ c.if-kind_number-eq8.false)
+body_word-requires c = (search rules, kind-told (goal.at.body_word-requires c).After-kind_number ∙ ne_eqb _ _ c.if-kind_number-eq8.false)
 
 pub returns-then-not-body_word : goal.returns-then-not-body_word
 returns-then-not-body_word c =

@@ -52,7 +52,7 @@ loop-left-preserved c =
           c.in-Good.is,
       j.invariant.1
           ∙ turn-good p n k j.set j.at j.left c.loop-left-test.true c.step_form-step.ensures c.in-Good.is
-          ∙ rw c.with_bit_lem.ensures,
+          ∙ rw c.with_bit-set.ensures,
     )
 
 pub returns-then-at-plan : goal.returns-then-at-plan

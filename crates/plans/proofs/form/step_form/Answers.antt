@@ -35,7 +35,7 @@ body_run-run-requires c = short c
 
 pub overflow_add-result-then-run-m-2 : goal.overflow_add-result-then-run-m-2
 overflow_add-result-then-run-m-2 c =
-    let l = few c.before in
+    let l = few (goal.at.overflow_add-result-then-run-m-2 c).After-body_run-run in
     let h = c.requires.0 in
     omega arith
 
@@ -50,7 +50,7 @@ pub overflow_add-result-3 : goal.overflow_add-result-3
 overflow_add-result-3 c =
     let k = c.if-run-m.false in
     let h = c.requires.0 in
-    let l = few c.before.before in
+    let l = few (goal.at.overflow_add-result-3 c).After-body_run-run in
     omega arith
 
 pub returns : goal.returns

@@ -14,10 +14,10 @@ above c =
     ap is_greater (c.compare.ensures ∙ ap (λ (z : ℤ). order_of (value w) z) c.of.ensures) ∙ is_greater_lem (value w) (pos 0)
 
 pub returns-in-Less : goal.returns-in-Less
-returns-in-Less c = ap is_greater (sym c.in-Less.is) ∙ above c.before.before
+returns-in-Less c = ap is_greater (sym c.in-Less.is) ∙ above (goal.at.returns-in-Less c).After-compare
 
 pub returns-in-Equal : goal.returns-in-Equal
-returns-in-Equal c = ap is_greater (sym c.in-Equal.is) ∙ above c.before.before
+returns-in-Equal c = ap is_greater (sym c.in-Equal.is) ∙ above (goal.at.returns-in-Equal c).After-compare
 
 pub returns-in-Greater : goal.returns-in-Greater
-returns-in-Greater c = ap is_greater (sym c.in-Greater.is) ∙ above c.before.before
+returns-in-Greater c = ap is_greater (sym c.in-Greater.is) ∙ above (goal.at.returns-in-Greater c).After-compare

@@ -54,9 +54,9 @@ returns-then-matrix_good c =
     let w3 = (simp (to_z-of_z, f.c13, wider f.c13, kept3) at c.times-w3.ensures) ∙ ap (λ (z : ℤ). c.args.c13 *ℤ z) m3 in
     let d =
     plus-is c.plus-then-matrix_good.ensures (plus-is c.plus.ensures w1 w2) w3
-    ∙ sum-exact bounds (entries c) (known c.before.before.before.before.before.before.before.before.before.before.before) D tt in
-    c.is_positive.ensures ∙ ap (lt_z (pos 0)) d ∙ sym (ap c (sym (corner c.before.before.before.before.before.before.before.before.before.before) ∙ c.if-matrix_good.true))
+    ∙ sum-exact bounds (entries c) (known (goal.at.returns-then-matrix_good c).Start) D tt in
+    c.is_positive.ensures ∙ ap (lt_z (pos 0)) d ∙ sym (ap c (sym (corner (goal.at.returns-then-matrix_good c).After-matrix_good) ∙ c.if-matrix_good.true))
 
 pub returns : goal.returns
 unfolding matrix3_good
-returns c = sym (ap c (sym (corner c.before) ∙ c.if-matrix_good.false))
+returns c = sym (ap c (sym (corner (goal.at.returns c).After-matrix_good) ∙ c.if-matrix_good.false))

@@ -30,7 +30,7 @@ loop-k-preserved c =
         c.read_word.ensures,
         c.field.ensures,
       )
-          (line-more a.line.now a.rest-1.now c.loop-k.k (omega arith)),
+          (line-more a.line.now a.rest.now c.loop-k.k (omega arith)),
     )
 
 pub shape_of-rest : goal.shape_of-rest

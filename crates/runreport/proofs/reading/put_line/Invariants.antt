@@ -15,7 +15,7 @@ use Rattle.runreport.proofs.LineLaws.{line-more, line_words-length}
 use Rattle.runreport.proofs.reading.put_line.Given as goal
 
 abbrev pub invariant-loop-k : goal.invariant-loop-k
-invariant-loop-k l = (l.initial.rest ≡ length (fields l.n)) × (l.k ≤ l.initial.rest) × (l.rest ≡ over (take l.k (line_words l.n)) l.line)
+invariant-loop-k l = (l.n ≡ length (fields l.line)) × (l.k ≤ l.n) × (l.rest ≡ over (take l.k (line_words l.line)) l.initial.rest)
 
 abbrev pub decreases-loop-k : goal.decreases-loop-k
-decreases-loop-k l = l.initial.rest - l.k
+decreases-loop-k l = l.n - l.k

@@ -23,7 +23,7 @@ overflow_add-m c =
     let a = c.args in
     omega (
       arith,
-      few_more line_words (words_of a.part.now) a.part.now a.plan-1.now c.loop-at.at c.loop-at.m c.loop-at.invariant
+      few_more line_words (words_of a.part.now) a.part.now a.plan.now c.loop-at.at c.loop-at.m c.loop-at.invariant
           c.loop-at-test.true (line_words-few _) (rw c.line_from.ensures at c.put_line_from-c.ensures.0),
       found_inside a.part.now c.loop-at.at 10 c.find-at.ensures (omega arith),
     )

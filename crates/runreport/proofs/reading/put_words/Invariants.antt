@@ -12,7 +12,7 @@ use Rattle.runreport.proofs.LineLaws.{line_words-few, words_are}
 use Rattle.runreport.proofs.reading.put_words.Given as goal
 
 abbrev pub invariant-loop-at : goal.invariant-loop-at
-invariant-loop-at l = Filled line_words (words_of l.initial.plan) l.initial.plan l.part l.at l.m l.plan
+invariant-loop-at l = Filled line_words (words_of l.part) l.part l.initial.plan l.at l.m l.plan
 
 abbrev pub decreases-loop-at : goal.decreases-loop-at
-decreases-loop-at l = length l.initial.plan - l.at
+decreases-loop-at l = length l.part - l.at

@@ -28,6 +28,6 @@ returns c =
     let p = args.plan.now in
     let t = ap (λ (k : Counting). k.tally)
     (c.count-counted.ensures
-    ∙ list_counted good.0 args.part.now c.requires.0 good.1 p args.list-1.now _ c.requires.1
+    ∙ list_counted good.0 args.part.now c.requires.0 good.1 p args.list.now _ c.requires.1
     c.put_lines-m.ensures.1 c.put_lines-m.result c.put_lines-m.ensures.0) in
     (t, rw t (list-most good.0 args.part.now c.requires.0 good.1 p), omega (arith, c.put_lines-m.auto, c.requires.1))

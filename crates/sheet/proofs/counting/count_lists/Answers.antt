@@ -19,7 +19,7 @@ pub loop-at-init : goal.loop-at-init
 loop-at-init c =
     let a = c.args in
     let good = c.requires.2 in
-    ((good.0, rw (c.requires.1, c.no_tally-total.ensures) (done_none good.0 a.plan.now a.input.now a.columns-1.now c.requires.0 good.1)), c.requires.3)
+    ((good.0, rw (c.requires.1, c.no_tally-total.ensures) (done_none good.0 a.plan.now a.input.now a.columns.now c.requires.0 good.1)), c.requires.3)
 
 pub overflow_add-at : goal.overflow_add-at
 overflow_add-at c =
@@ -30,7 +30,7 @@ pub overflow_add-begin : goal.overflow_add-begin
 overflow_add-begin c =
     let a = c.args in
     let inv = c.loop-at.invariant.0 in
-    let near = events-near inv.0 a.plan.now a.input.now a.columns-1.now c.requires.0
+    let near = events-near inv.0 a.plan.now a.input.now a.columns.now c.requires.0
     c.loop-at.at c.loop-at.lists inv.1 c.loop-at-test.true in
     let h : c.find-begin.result + 1 < 65600 = omega (arith, near, c.find-begin.ensures, c.requires.0) in
     search rules
@@ -55,14 +55,14 @@ count_list-tally-requires c =
         c.requires.0,
       ),
       inv.1,
-      list-good inv.0.0 a.plan.now a.input.now a.columns-1.now c.requires.0 c.loop-at.at c.loop-at.lists inv.0.1 c.loop-at-test.true is,
+      list-good inv.0.0 a.plan.now a.input.now a.columns.now c.requires.0 c.loop-at.at c.loop-at.lists inv.0.1 c.loop-at-test.true is,
     )
 
 pub overflow_mul-lists : goal.overflow_mul-lists
 overflow_mul-lists c =
     let a = c.args in
     let inv = c.loop-at.invariant.0 in
-    let few = lists-room inv.0 a.plan.now a.input.now a.columns-1.now c.requires.0
+    let few = lists-room inv.0 a.plan.now a.input.now a.columns.now c.requires.0
     c.loop-at.at c.loop-at.lists inv.1 c.loop-at-test.true in
     let h : c.loop-at.lists * 67 < 1000000 = omega (arith, few) in
     search rules
@@ -74,7 +74,7 @@ pub overflow_add-lists : goal.overflow_add-lists
 overflow_add-lists c =
     let a = c.args in
     let inv = c.loop-at.invariant.0 in
-    let few = lists-room inv.0 a.plan.now a.input.now a.columns-1.now c.requires.0
+    let few = lists-room inv.0 a.plan.now a.input.now a.columns.now c.requires.0
     c.loop-at.at c.loop-at.lists inv.1 c.loop-at-test.true in
     let h : c.loop-at.lists + 1 < 1000000 = omega (arith, few) in
     search rules
@@ -83,7 +83,7 @@ pub overflow_add-at-in-loop-at : goal.overflow_add-at-in-loop-at
 overflow_add-at-in-loop-at c =
     let a = c.args in
     let inv = c.loop-at.invariant.0 in
-    let near = events-near inv.0 a.plan.now a.input.now a.columns-1.now c.requires.0
+    let near = events-near inv.0 a.plan.now a.input.now a.columns.now c.requires.0
     c.loop-at.at c.loop-at.lists inv.1 c.loop-at-test.true in
     let h : c.find-begin.result + 1 + c.split-parted.result.table < 200000 =
     omega (
@@ -114,7 +114,7 @@ loop-at-preserved c =
     let end_is = part.1 ∙ ap table_end behind in (
       (
         inv.0,
-        done_more inv.0 a.plan.now a.input.now a.columns-1.now c.requires.0 c.loop-at.at c.loop-at.lists inv.1 c.loop-at-test.true
+        done_more inv.0 a.plan.now a.input.now a.columns.now c.requires.0 c.loop-at.at c.loop-at.lists inv.1 c.loop-at-test.true
             tally-is c.count_list-tally.ensures.1 c.sum-total.ensures c.put_numbers_from.ensures.1 begin-is end_is,
       ),
       c.count_list-tally.ensures.2,
@@ -130,4 +130,4 @@ pub returns : goal.returns
 returns c =
     let a = c.args in
     let inv = c.loop-at.invariant.0 in
-    all-counted inv.0 a.plan.now a.input.now a.columns-1.now c.requires.0 c.loop-at.at c.loop-at.lists inv.1 c.loop-at-test.false
+    all-counted inv.0 a.plan.now a.input.now a.columns.now c.requires.0 c.loop-at.at c.loop-at.lists inv.1 c.loop-at-test.false

@@ -9,7 +9,7 @@ use Rattle.sheet.proofs.ColumnLaws.{CountsTo, counts-none, counts-more, numbers-
 use Rattle.sheet.proofs.counting.put_numbers.Given as goal
 
 abbrev pub invariant-loop-r : goal.invariant-loop-r
-invariant-loop-r l = CountsTo l.initial.rest l.tally l.r l.rest
+invariant-loop-r l = CountsTo l.tally l.initial.rest l.r l.rest
 
 abbrev pub decreases-loop-r : goal.decreases-loop-r
 decreases-loop-r l = 64 - l.r

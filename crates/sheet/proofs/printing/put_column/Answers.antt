@@ -12,7 +12,7 @@ use Rattle.sheet.proofs.PrintLaws.{from-length, field_short, column-length, colu
 use Rattle.sheet.proofs.printing.put_column.Goals as goal
 
 pub loop-j-init : goal.loop-j-init
-loop-j-init c = let a = c.args in (omega arith, column-none a.columns.now a.r a.at a.out-1.now)
+loop-j-init c = let a = c.args in (omega arith, column-none a.columns.now a.r a.at a.out.now)
 
 pub overflow_add-at : goal.overflow_add-at
 overflow_add-at c =
@@ -33,7 +33,7 @@ overflow_add-bytes c =
 pub loop-j-preserved : goal.loop-j-preserved
 loop-j-preserved c =
     let a = c.args in
-    let w = column-next a.columns.now a.r a.at c.loop-j.j a.out-1.now c.loop-j.invariant.1 c.number_at.ensures c.put_field_from-bytes.ensures in
+    let w = column-next a.columns.now a.r a.at c.loop-j.j a.out.now c.loop-j.invariant.1 c.number_at.ensures c.put_field_from-bytes.ensures in
     (search rules, w)
 
 pub shape_of-out : goal.shape_of-out

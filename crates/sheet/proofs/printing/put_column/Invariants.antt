@@ -12,7 +12,7 @@ use Rattle.sheet.proofs.PrintLaws.{from-length, field_short, column-length, colu
 use Rattle.sheet.proofs.printing.put_column.Given as goal
 
 abbrev pub invariant-loop-j : goal.invariant-loop-j
-invariant-loop-j l = (l.j ≤ l.r) × WritesFrom l.columns (flat_map number_field (column_of l.k l.j l.initial.out)) l.at l.out l.bytes
+invariant-loop-j l = (l.j ≤ l.k) × WritesFrom l.at (flat_map number_field (column_of l.columns l.j l.r)) l.initial.out l.out l.bytes
 
 abbrev pub decreases-loop-j : goal.decreases-loop-j
-decreases-loop-j l = l.r - l.j
+decreases-loop-j l = l.k - l.j

@@ -34,7 +34,7 @@ loop-r-preserved c =
     let a = c.args in (
       search rules,
       omega (arith, c.requires.1, c.loop-r.invariant.1, c.put_region-at.ensures.upper_bound),
-      region-next (regions (gates_at a.text.now a.starts.at a.n)) a.columns.now a.k a.total a.out-1.now c.loop-r.r c.loop-r.at
+      region-next (regions (gates_at a.text.now a.starts.at a.n)) a.columns.now a.k a.total a.out.now c.loop-r.r c.loop-r.at
           c.loop-r.invariant.2 c.name_at-name.ensures c.parent_at-parent.ensures c.put_region-at.ensures.writes_from,
     )
 

@@ -16,8 +16,8 @@ use Rattle.sheet.proofs.printing.put_regions.Given as goal
 
 abbrev pub invariant-loop-r : goal.invariant-loop-r
 invariant-loop-r l =
-    let rs = regions (gates_at l.starts l.n.at l.m) in
-    (l.r ≤ l.columns) × (l.at ≤ 196682 * l.r) × Written (region_lines rs (numbers_by rs l.k l.total l.initial.out) l.r) l.text l.at l.out
+    let rs = regions (gates_at l.text l.starts.at l.n) in
+    (l.r ≤ l.m) × (l.at ≤ 196682 * l.r) × Written (region_lines rs (numbers_by rs l.columns l.k l.total) l.r) l.initial.out l.at l.out
 
 abbrev pub decreases-loop-r : goal.decreases-loop-r
-decreases-loop-r l = l.columns - l.r
+decreases-loop-r l = l.m - l.r

@@ -34,5 +34,5 @@ returns c =
     let a = number-accepted 4096 t c.requires.0 in
     let g = gates_are 4096 t a starts-of.result.at (places t starts-of.ensures) starts-of.result.lines (line-count t starts-of.ensures) in
     let r = rw g at c.put_regions-a.ensures.writes in
-    sheet_written t args.columns.now args.k args.total args.out-1.now args.m c.requires.1 r
+    sheet_written t args.columns.now args.k args.total args.out.now args.m c.requires.1 r
     c.put_summaries.ensures.writes_from c.put_count_from.ensures

@@ -16,7 +16,7 @@ loop-j-preserved c =
     let starts = c.args.starts.at in
     let text = c.args.text.now in
     let i = c.args.i in
-    let line_at_lem = c.line_at_lem in
+    let line_at_lem = c.line_at-line in
     let head = c.loop-j in
     let line-at2 = c.line_at in (
       search rules,

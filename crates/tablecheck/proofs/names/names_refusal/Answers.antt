@@ -36,14 +36,14 @@ module _ (b : Crowding) where
   read : n ≡ min (length (gate_lines text)) 65
   read =
       let after-starts-of = b.before.before.before in
-      count-read text (line-count text after-starts-of.starts_of-starts.ensures) b.before.before.minus.ensures b.before.lesser.ensures
+      count-read text (line-count text after-starts-of.starts_of.ensures) b.before.before.minus.ensures b.before.lesser.ensures
 
-  module _ (h : n ≤ b.first_crowded-crowded.result) where
+  module _ (h : n ≤ b.first_crowded.result) where
     at-most_64_regions : length (regions_at text starts n) ≤ 64
-    at-most_64_regions = few text starts indexed good read b.first_crowded-crowded.ensures h
+    at-most_64_regions = few text starts indexed good read b.first_crowded.ensures h
 
     at-most_64_gates : n ≤ 64
-    at-most_64_gates = most text starts indexed good read b.first_crowded-crowded.ensures h
+    at-most_64_gates = most text starts indexed good read b.first_crowded.ensures h
 
 pub returns-then-crowded-n : goal.returns-then-crowded-n
 returns-then-crowded-n c =

@@ -16,7 +16,7 @@ returns-then-not-own_different c =
     let starts = c.args.starts.at in
     let text = c.args.text.now in
     let i = c.args.i in
-    let line_at_lem = c.line_at_lem in
+    let line_at_lem = c.line_at-line in
     repeats_own text starts i (own_read text starts i line_at_lem.ensures c.own_different.ensures) (not-true _ c.if-not-own_different.true-raw)
 
 pub loop-j-init : goal.loop-j-init
@@ -30,7 +30,7 @@ returns-then-shares_name c =
     let head = c.loop-j in
     let if1 = c.if-not-own_different in
     let own-different = c.own_different in
-    let line_at_lem = c.line_at_lem in
+    let line_at_lem = c.line_at-line in
     let args = c.args in
     let i = args.i in
     let starts = args.starts.at in
@@ -38,13 +38,13 @@ returns-then-shares_name c =
     let s = shares_at text starts i in
     sym (repeats_rest text starts i (own_read text starts i line_at_lem.ensures own-different.ensures) (not-false _ if1.false)
     ∙ any_stop s i head.j loop-test.true (sym (shares_read text starts i line_at_lem.ensures head.j line-at2.ensures
-    c.shares_name_lem.ensures) ∙ c.if-shares_name.true))
+    c.shares_name.ensures) ∙ c.if-shares_name.true))
 
 pub loop-j-preserved : goal.loop-j-preserved
 loop-j-preserved c =
     let line-at2 = c.line_at in
     let head = c.loop-j in
-    let line_at_lem = c.line_at_lem in
+    let line_at_lem = c.line_at-line in
     let args = c.args in
     let i = args.i in
     let starts = args.starts.at in
@@ -52,7 +52,7 @@ loop-j-preserved c =
     let s = shares_at text starts i in (
       search rules,
       any-more s head.j head.invariant.1 (sym (shares_read text starts i line_at_lem.ensures head.j line-at2.ensures
-          c.shares_name_lem.ensures) ∙ c.if-shares_name.false),
+          c.shares_name.ensures) ∙ c.if-shares_name.false),
     )
 
 pub returns : goal.returns
@@ -62,7 +62,7 @@ returns c =
     let if1 = c.if-not-own_different in
     let own-different = c.own_different in
     let k = head.invariant.0 in
-    let line_at_lem = c.line_at_lem in
+    let line_at_lem = c.line_at-line in
     let args = c.args in
     let i = args.i in
     let starts = args.starts.at in

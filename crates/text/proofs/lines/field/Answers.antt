@@ -23,11 +23,11 @@ returns-then-e-line c =
     ∙ sym loop.invariant.1
 
 pub overflow_add-a : goal.overflow_add-a
-overflow_add-a c = let h = inside c.before in search rules
+overflow_add-a c = let h = inside (goal.at.overflow_add-a c).After-find-e in search rules
 
 pub loop-left-preserved : goal.loop-left-preserved
 loop-left-preserved c =
-    let h = inside c.before in
+    let h = inside (goal.at.loop-left-preserved c).After-find-e in
     (omega arith, c.loop-left.invariant.1 ∙ field_next _ c.loop-left.a _ c.loop-left.left c.find-e.ensures c.loop-left-test.true (omega arith))
 
 pub slice_bounds-result-count-2 : goal.slice_bounds-result-count-2
@@ -37,7 +37,7 @@ slice_bounds-result-count-2 c =
 
 pub slice_bounds-result-start-2 : goal.slice_bounds-result-start-2
 slice_bounds-result-start-2 c =
-    let h = sub-result-2 c in
+    let h = slice_bounds-result-count-2 c in
     let i = inside-2 c in
     search rules
 

@@ -45,7 +45,7 @@ loop-at-preserved c =
       omega arith,
       rw c.find-at.ensures (rest-next s _ n loop.at e),
       rw (c.put_place.ensures, loop.invariant.3)
-          (ap (set (over (take n s) a.starts-1.now) n) (sym (rest-first s _ n loop.at e 0)) ∙ over-take s a.starts-1.now n 0 i),
+          (ap (set (over (take n s) a.starts.now) n) (sym (rest-first s _ n loop.at e 0)) ∙ over-take s a.starts.now n 0 i),
     )
 
 pub shape_of-starts : goal.shape_of-starts

@@ -20,7 +20,7 @@ slice_bounds-result-count c = let a = c.args in omega (arith, find_from_lem a.te
 
 pub slice_bounds-result-start : goal.slice_bounds-result-start
 slice_bounds-result-start c =
-    let h = sub-result c in
+    let h = slice_bounds-result-count c in
     let i = inside c in
     search rules
 

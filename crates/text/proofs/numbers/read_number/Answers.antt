@@ -15,7 +15,7 @@ returns-then-is_number c =
     rw (
       to_z-of_z w32 _ (record { sfits = c.signed.type_inv }),
       c.signed.ensures,
-      c.digits_value_lem.ensures,
+      c.digits_value.ensures,
       min-min _ 1073741824 2147483647 (omega arith),
       c.unsigned.ensures,
       c.negative.ensures,

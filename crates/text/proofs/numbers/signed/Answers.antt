@@ -12,10 +12,10 @@ small : (c : After-at_most-m) → c.at_most-m.result < 2 ^ 31
 small c = let e = c.at_most-m.ensures in omega arith
 
 pub overflow_sub-result : goal.overflow_sub-result
-overflow_sub-result c = rw (minus_is _ (small c.before)) (minus-fits _ (small c.before))
+overflow_sub-result c = rw (minus_is _ (small (goal.at.overflow_sub-result c).After-at_most-m)) (minus-fits _ (small (goal.at.overflow_sub-result c).After-at_most-m))
 
 pub returns-then-b : goal.returns-then-b
-returns-then-b c = rw (c.if-b.true, minus_is _ (small c.before), to_z-of_z w32 _ (minus-fits _ (small c.before)), ← c.at_most-m.ensures)
+returns-then-b c = rw (c.if-b.true, minus_is _ (small (goal.at.returns-then-b c).After-at_most-m), to_z-of_z w32 _ (minus-fits _ (small (goal.at.returns-then-b c).After-at_most-m)), ← c.at_most-m.ensures)
 
 pub returns-else-b : goal.returns-else-b
-returns-else-b c = rw (c.if-b.false, to_z_pos w32 _ (small c.before), ← c.at_most-m.ensures)
+returns-else-b c = rw (c.if-b.false, to_z_pos w32 _ (small (goal.at.returns-else-b c).After-at_most-m), ← c.at_most-m.ensures)

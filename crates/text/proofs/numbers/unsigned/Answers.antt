@@ -10,7 +10,7 @@ pub slice_bounds-result-count : goal.slice_bounds-result-count
 slice_bounds-result-count c = negative-some _ (sym c.negative.ensures ∙ c.if-negative.true)
 
 pub slice_bounds-result-start : goal.slice_bounds-result-start
-slice_bounds-result-start c = let h = sub-result c in search rules
+slice_bounds-result-start c = let h = slice_bounds-result-count c in search rules
 
 pub returns-then-negative : goal.returns-then-negative
 unfolding unsigned

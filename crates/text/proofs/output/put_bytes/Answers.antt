@@ -18,7 +18,7 @@ loop-i-preserved c =
     let loop = c.loop-i in
     let a = c.args in (
       search rules,
-      rw (c.put_byte.ensures, loop.invariant.1) (over-take a.s.now a.rest-1.now loop.i 0 c.loop-i-test.true),
+      rw (c.put_byte.ensures, loop.invariant.1) (over-take a.s.now a.rest.now loop.i 0 c.loop-i-test.true),
     )
 
 pub shape_of-rest : goal.shape_of-rest

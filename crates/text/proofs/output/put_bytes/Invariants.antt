@@ -10,7 +10,7 @@ use Rattle.text.proofs.OutputLaws.{over-length, over-take}
 use Rattle.text.proofs.output.put_bytes.Given as goal
 
 abbrev pub invariant-loop-i : goal.invariant-loop-i
-invariant-loop-i l = (l.i ≤ length l.initial.rest) × (l.rest ≡ over (take l.i l.initial.rest) l.s)
+invariant-loop-i l = (l.i ≤ length l.s) × (l.rest ≡ over (take l.i l.s) l.initial.rest)
 
 abbrev pub decreases-loop-i : goal.decreases-loop-i
-decreases-loop-i l = length l.initial.rest - l.i
+decreases-loop-i l = length l.s - l.i
