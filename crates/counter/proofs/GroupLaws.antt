@@ -1,6 +1,6 @@
 -- A group of events: its events, asking a step of a set of them, and the sets after each step.
 use mathlib.Core.Path.{◌≡◌, refl, sym, ap, ap₂, ◌∙◌}
-use mathlib.Core.Bool.{Bool, true, false, not, cond, ◌&&◌, ◌||◌, and_assoc, and_true, and_false, or_false, and-or_distrib_left}
+use mathlib.Core.Bool.{Bool, true, false, not, cond, ◌&&◌, ◌||◌, and_assoc, and-true, and-false, or-false, and-or_distrib_left}
 use mathlib.Core.List.{List, [], ◌∷◌}
 use Prim.Native.Nat.{ℕ, zero, suc, ◌+◌, ◌-◌, ◌*◌, ◌/◌, ◌%◌, ◌<◌, ◌≤◌}
 use native.Mathlib.Omega.{arith}
@@ -122,7 +122,7 @@ module _ (test : ℕ → Bool) where
       record { each = λ e l. has_or before run e ∙ rw (s.each e l, r.each e l) (go e (dec_lt e from) (dec_lt e to)) }
     where
       go : (e : ℕ) → Dec (e < from) → Dec (e < to) → ((ltb e from && test e) || (leb from e && ltb e to)) ≡ (ltb e to && test e)
-      go e (yes l) d = rw (lt-ltb e from l, lt-leb from e l, lt-ltb e to (omega arith)) (or_false (test e))
+      go e (yes l) d = rw (lt-ltb e from l, lt-leb from e l, lt-ltb e to (omega arith)) (or-false (test e))
       go e (no l) (yes m) = rw (le-ltb e from (omega arith), le-leb from e (omega arith), lt-ltb e to m, pass e (omega arith) m)
       go e (no l) (no m) = rw (le-ltb e from (omega arith), le-leb from e (omega arith), le-ltb e to (omega arith))
 
@@ -191,7 +191,7 @@ module _ (among : ℕ) (test : ℕ → Bool) where
   asking_all = record { left = λ e h t. t; each = λ e h. rw (no_bit e) }
 
   pub asking_done : {rest found : ℕ} → Asking among test rest found → rest ≤ 0 → Those among test found
-  asking_done {rest} {found} a h = record { each = λ e l. sym (or_false (has_bit found e)) ∙ (rw (gone e) at (a.each e l)) }
+  asking_done {rest} {found} a h = record { each = λ e l. sym (or-false (has_bit found e)) ∙ (rw (gone e) at (a.each e l)) }
     where
       gone : (e : ℕ) → has_bit rest e ≡ false
       gone e = let z : rest ≡ 0 = omega arith in rw z (no_bit e)
@@ -202,10 +202,10 @@ module _ (among : ℕ) (test : ℕ → Bool) where
     asked = a.left e f.below f.there
 
     without : has_bit (bit_and rest (rest - 1)) e ≡ false
-    without = rest-is f e ∙ rw (eq-eqb e e refl) (and_false (has_bit rest e))
+    without = rest-is f e ∙ rw (eq-eqb e e refl) (and-false (has_bit rest e))
 
     others : (k : ℕ) → (k ≡ e → ⊥) → has_bit (bit_and rest (rest - 1)) k ≡ has_bit rest k
-    others k q = rest-is f k ∙ rw (ne_eqb k e q) (and_true (has_bit rest k))
+    others k q = rest-is f k ∙ rw (ne_eqb k e q) (and-true (has_bit rest k))
 
     pub asking_next : {x : Bool} → x ≡ test e → {after : ℕ} → after ≡ cond x (with_bit found e) found → Asking among test (bit_and rest (rest - 1)) after
     asking_next {x} ex {after} ea = record {
@@ -214,7 +214,7 @@ module _ (among : ℕ) (test : ℕ → Bool) where
     }
       where
         here : (has_bit after e || (has_bit (bit_and rest (rest - 1)) e && test e)) ≡ (has_bit found e || (has_bit rest e && test e))
-        here = rw (ea, settle-same found e f.below x, without, f.there, ex) (or_false (has_bit found e || test e))
+        here = rw (ea, settle-same found e f.below x, without, f.there, ex) (or-false (has_bit found e || test e))
 
         other : (k : ℕ) → (k ≡ e → ⊥)
             → (has_bit after k || (has_bit (bit_and rest (rest - 1)) k && test k)) ≡ (has_bit found k || (has_bit rest k && test k))
@@ -235,7 +235,7 @@ module _ (n : ℕ) (group body : List ℤ) where
   -- no triple asked, and one more
   pub triples_none : (among : ℕ) → Those among (triples_at n group body 0) among
   unfolding triples_at all
-  triples_none among = record { each = λ e h. sym (and_true (has_bit among e)) }
+  triples_none among = record { each = λ e h. sym (and-true (has_bit among e)) }
 
   pub triples_next : (t : ℕ) {g among rest found : ℕ} → Candidates n group g among → Those among (triples_at n group body t) rest
       → SetOf (first_of (triple_at n group body t) g) found → Those among (triples_at n group body (suc t)) (bit_and rest found)
@@ -257,7 +257,7 @@ module _ (n : ℕ) (group body : List ℤ) where
 module _ (sets : List ℕ) (body : List ℤ) where
   pub all_none : (among : ℕ) → Those among (all_at sets body 0) among
   unfolding all_at all
-  all_none among = record { each = λ e h. sym (and_true (has_bit among e)) }
+  all_none among = record { each = λ e h. sym (and-true (has_bit among e)) }
 
   pub all-next : (i : ℕ) {among rest operand : ℕ} → Those among (all_at sets body i) rest → SetOf (operand_at sets body i) operand
       → Those among (all_at sets body (i + 1)) (bit_and rest operand)
@@ -420,7 +420,7 @@ module _ (p : List ℤ) (n : ℕ) (group : List ℤ) (taken : ℕ) where
 -- event e is in none of no sets, and of one set more
 pub in_none_start : (sets : List ℕ) (among : ℕ) → Those among (in_none sets 0) among
 unfolding in_none any
-in_none_start sets among = record { each = λ e h. sym (and_true (has_bit among e)) }
+in_none_start sets among = record { each = λ e h. sym (and-true (has_bit among e)) }
 
 pub in_none-next : (sets : List ℕ) (m : ℕ) {among rest other : ℕ} → Those among (in_none sets m) rest → SetOf (outside (get_or sets m 0)) other
     → Those among (in_none sets (m + 1)) (bit_and rest other)

@@ -1,6 +1,6 @@
 -- Sets of events as bits: intersection, union, complement, a run of events, the first event, no event, one event more.
 use mathlib.Core.Path.{◌≡◌, refl, sym, ap, ◌∙◌}
-use mathlib.Core.Bool.{Bool, true, false, not, cond, ◌&&◌, ◌||◌, and_false, and_self, and_true, or_true, or_false}
+use mathlib.Core.Bool.{Bool, true, false, not, cond, ◌&&◌, ◌||◌, and-false, and_self, and-true, or-true, or-false}
 use Prim.Native.Nat.compare
 use Prim.Native.Nat.{ℕ, zero, suc, ◌+◌, ◌-◌, ◌*◌, ◌/◌, ◌%◌, ◌^◌, ◌<◌, ◌≤◌, min}
 use native.Mathlib.Omega.{arith}
@@ -105,7 +105,7 @@ has_from-to from to h e = go (dec_lt e to) (dec_lt e from)
         ∙ rw (has_below from e, le-ltb e from (omega arith), le-leb from e (omega arith), lt-ltb e to l)
     go (no l) d =
         let u : 2 ^ to - 1 - (2 ^ from - 1) < 2 ^ e = let p = pow_pos to in let m = pow_mono {i = to} {j = e} (omega arith) in omega arith in
-        ap (λ (x : ℕ). has_bit x e) run ∙ rw (div-eq_of_lt u, le-ltb e to (omega arith)) (sym (and_false (leb from e)))
+        ap (λ (x : ℕ). has_bit x e) run ∙ rw (div-eq_of_lt u, le-ltb e to (omega arith)) (sym (and-false (leb from e)))
 
 -- ---- the first event
 
@@ -120,7 +120,7 @@ first-odd k set odd = record { below = omega arith; there = has_low set ∙ rw o
     only (suc i) =
         let same : (set - 1) / 2 ≡ set / 2 = omega arith in
         rw (has_half set i, has_half (set - 1) i, same, ne_eqb (suc i) zero (λ q. omega arith))
-        (and_self (has_bit (set / 2) i) ∙ sym (and_true (has_bit (set / 2) i)))
+        (and_self (has_bit (set / 2) i) ∙ sym (and-true (has_bit (set / 2) i)))
 
 first-even : (k set : ℕ) {first : ℕ} → 0 < set → set % 2 ≡ 0 → First k (set / 2) first → First (suc k) set (suc first)
 first-even k set {first} some even f =
@@ -163,8 +163,8 @@ module _ (set e : ℕ) (h : e < 64) (x : Bool) where
   settle-same = go x
     where
       go : (x : Bool) → has_bit (cond x (with_bit set e) set) e ≡ (has_bit set e || x)
-      go true = has_with_same set e h ∙ sym (or_true (has_bit set e))
-      go false = sym (or_false (has_bit set e))
+      go true = has_with_same set e h ∙ sym (or-true (has_bit set e))
+      go false = sym (or-false (has_bit set e))
 
   pub settle_other : (i : ℕ) → (i ≡ e → ⊥) → has_bit (cond x (with_bit set e) set) i ≡ has_bit set i
   settle_other i n = go x

@@ -1,7 +1,7 @@
 -- The walk over the edges: what it holds after each of them, and at the end. Of the definition this is said by `walked_next`, `walked-carried` and
 -- `walked_all`; of the code by the contracts of `walk`, for every end of a stretch, and `long_walk`, and by the invariants `Inv-loop` of their proofs.
 use mathlib.Core.Path.{◌≡◌, refl, sym, ap, ap₂, ◌∙◌}
-use mathlib.Core.Bool.{Bool, true, false, cond, ◌&&◌, ◌||◌, or_assoc, or_false}
+use mathlib.Core.Bool.{Bool, true, false, cond, ◌&&◌, ◌||◌, or_assoc, or-false}
 use mathlib.Core.List.{List, [], ◌∷◌, ◌++◌, foldr}
 use Prim.Native.Nat.{ℕ, zero, suc, ◌+◌, ◌-◌, ◌*◌, ◌/◌, ◌%◌, ◌<◌, ◌≤◌}
 use native.Mathlib.Omega.{arith}
@@ -58,7 +58,7 @@ module _ (x y : ℤ) where
       go : (o : Bool)
           → cond (o || (on_edge e x y || false)) Carried (Summed (crossings es x y +ℤ crossing e x y)) ≡ past e x y (cond o Carried (Summed (crossings es x y)))
       go true = refl
-      go false = rw (or_false (on_edge e x y))
+      go false = rw (or-false (on_edge e x y))
 
   -- what is carried stays carried, whatever comes behind
   over-carried : (es fs : List Edge) → over es x y ≡ Carried → over (es ++ fs) x y ≡ Carried

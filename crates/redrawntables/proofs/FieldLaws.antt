@@ -1,6 +1,6 @@
 -- The fields of a line that is redrawn are the same in another order; its text is as long and has no LF in it.
 use mathlib.Core.Path.{◌≡◌, refl, sym, ap, ◌∙◌}
-use mathlib.Core.Bool.{Bool, true, false, not, ◌&&◌, and_true}
+use mathlib.Core.Bool.{Bool, true, false, not, ◌&&◌, and-true}
 use mathlib.Core.List.Permᴰ
 use mathlib.Core.List.{List, [], ◌∷◌, ◌++◌, Permᴰ}
 use Prim.Native.Nat.{ℕ, ◌<◌}
@@ -45,7 +45,7 @@ without_append (x ∷ a) b = rw (without_append a b) (sym (assoc (not (eqb x 10)
 -- no LF comes in with the tabs
 unfields-without : (fs : List (List ℕ)) → without 10 (unfields fs) ≡ every (without 10) fs
 unfields-without [] = refl
-unfields-without (f ∷ []) = sym (and_true (without 10 f))
+unfields-without (f ∷ []) = sym (and-true (without 10 f))
 unfields-without (f ∷ (g ∷ fs)) = without_append f (9 ∷ unfields (g ∷ fs)) ∙ ap (λ (b : Bool). without 10 f && b) (unfields-without (g ∷ fs))
 
 -- ---- the fields

@@ -22,7 +22,7 @@ returns-then-has_bit-is_within c =
     let set = args.set in
     let t1 = args.t1.bits in
     sym (head.invariant.1 ∙ first_stop (held t1 set) args.n head.r loop-test.true
-    (held-not t1 set head.r _ _ _ row_at.ensures has-bit.ensures c.is_Within.ensures c.if-has_bit-is_within.true))
+    (held-not t1 set head.r _ _ _ row_at.ensures has-bit.ensures c.is_within.ensures c.if-has_bit-is_within.true))
 
 pub loop-r-preserved : goal.loop-r-preserved
 loop-r-preserved c =
@@ -35,7 +35,7 @@ loop-r-preserved c =
     let t1 = args.t1.bits in (
       search rules,
       head.invariant.1 ∙ first_more (held t1 set) args.n head.r loop-test.true
-          (held_still t1 set head.r _ _ _ row_at.ensures has-bit.ensures c.is_Within.ensures c.if-has_bit-is_within.false),
+          (held_still t1 set head.r _ _ _ row_at.ensures has-bit.ensures c.is_within.ensures c.if-has_bit-is_within.false),
     )
 
 pub returns : goal.returns

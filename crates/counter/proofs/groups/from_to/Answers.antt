@@ -2,7 +2,7 @@
 use mathlib.Core.Path.{◌≡◌}
 use Prim.Native.Nat.{◌+◌, ◌-◌, ◌*◌, ◌%◌, ◌^◌, ◌≤◌}
 use native.Mathlib.Omega.{arith}
-use native.Mathlib.Nat.{mod-eq_of_lt, one_mul}
+use native.Mathlib.Nat.{mod-eq_of_lt, one-mul}
 use lib.Pow.{pow_pos, pow_mono, high_ones}
 use Rattle.counter.specs.Inner.Groups.{from_to}
 use Rattle.counter.proofs.SetLaws.{has_from-to}
@@ -16,7 +16,7 @@ module _ (c : Start) where
   ones =
       let p = c.requires in
       let m = pow_mono {i = c.args.to - c.args.from} {j = 8} (omega arith) in
-      rw (one_mul (2 ^ (c.args.to - c.args.from))) (mod-eq_of_lt (omega arith))
+      rw (one-mul (2 ^ (c.args.to - c.args.from))) (mod-eq_of_lt (omega arith))
 
   kept : (2 ^ (c.args.to - c.args.from) - 1) * 2 ^ c.args.from % 18446744073709551616 ≡ (2 ^ (c.args.to - c.args.from) - 1) * 2 ^ c.args.from
   kept =

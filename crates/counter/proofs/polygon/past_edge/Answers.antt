@@ -1,6 +1,6 @@
 -- `past_edge`: on the line of the edge the two tests tell, and elsewhere its turn is added.
 use mathlib.Core.Path.{◌≡◌, sym, ◌∙◌}
-use mathlib.Core.Bool.{true, and_false}
+use mathlib.Core.Bool.{true, and-false}
 use borrow.Author.Tests.{eq-eqb, ne_eqb}
 use lib.Dec.{eqb}
 use lib.IntN.{pos, ◌+ℤ◌}
@@ -61,7 +61,7 @@ returns-else-between-2 c =
     let args = c.args in
     simp (to_z-of_z, c.ranges.sum)
     (edge_on_line args.a args.b args.sum c.side-s.result c.side-s.ensures (line (goal.at.returns-else-between-2 c).Then-s-eq0)
-    (rw (sym (up_is (goal.at.returns-else-between-2 c).After-between-then-between) ∙ c.if-between-2.false) (and_false (between args.a.right args.b.right (pos 0)))))
+    (rw (sym (up_is (goal.at.returns-else-between-2 c).After-between-then-between) ∙ c.if-between-2.false) (and-false (between args.a.right args.b.right (pos 0)))))
 
 pub returns-else-between : goal.returns-else-between
 returns-else-between c =

@@ -3,4 +3,4 @@ use borrow.Author.Rules.{rules}
 use Rattle.gatefields.proofs.fields.is_unknown.Goals as goal
 
 pub returns : goal.returns
-returns c = rw (c.is_Known.ensures, c.step_kind.ensures)
+returns c = rw (c.is_known.ensures, c.step_kind.ensures)

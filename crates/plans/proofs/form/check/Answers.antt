@@ -15,17 +15,17 @@ returns-then-plan-gt4096 c = long-plan c.args.plan.now c.if-plan-gt4096.true
 
 pub returns-then-not-is_within : goal.returns-then-not-is_within
 returns-then-not-is_within c =
-    bad-width c.args.plan.now c.if-plan-gt4096.false c.number_at-n.ensures c.is_Within.ensures
+    bad-width c.args.plan.now c.if-plan-gt4096.false c.number_at-n.ensures c.is_within.ensures
     (not-true _ c.if-not-is_within.true-raw)
 
 pub returns-then-not-is_within-2 : goal.returns-then-not-is_within-2
 returns-then-not-is_within-2 c =
-    bad-count c.args.plan.now c.if-plan-gt4096.false c.number_at-n.ensures c.is_Within.ensures
+    bad-count c.args.plan.now c.if-plan-gt4096.false c.number_at-n.ensures c.is_within.ensures
     (not-false _ c.if-not-is_within.false-raw) c.number_at-k.ensures c.is_within-2.ensures (not-true _ c.if-not-is_within-2.true-raw)
 
 pub loop-left-init : goal.loop-left-init
 loop-left-init c =
-    good-head c.args.plan.now c.if-plan-gt4096.false c.number_at-n.ensures c.is_Within.ensures
+    good-head c.args.plan.now c.if-plan-gt4096.false c.number_at-n.ensures c.is_within.ensures
     (not-false _ c.if-not-is_within.false-raw) c.number_at-k.ensures c.is_within-2.ensures (not-false _ c.if-not-is_within-2.false-raw)
 
 pub step_form-step-requires : goal.step_form-step-requires

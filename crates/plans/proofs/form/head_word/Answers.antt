@@ -6,7 +6,7 @@ use Rattle.plans.proofs.form.head_word.Goals as goal
 pub returns-then-j-eq0 : goal.returns-then-j-eq0
 returns-then-j-eq0 c =
     let args = c.args in
-    head-kind args.plan.now args.k args.set args.at args.j c.if-j-eq0.true c.kind_at.ensures c.is_Known.ensures
+    head-kind args.plan.now args.k args.set args.at args.j c.if-j-eq0.true c.kind_at.ensures c.is_known.ensures
 
 pub returns-then-j-eq1 : goal.returns-then-j-eq1
 returns-then-j-eq1 c =

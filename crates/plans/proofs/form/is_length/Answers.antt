@@ -6,7 +6,7 @@ use Rattle.plans.proofs.form.is_length.Goals as goal
 
 pub returns-in-Box : goal.returns-in-Box
 unfolding spans_by
-returns-in-Box c = rw (c.in-Box.is, c.is_Within.ensures)
+returns-in-Box c = rw (c.in-Box.is, c.is_within.ensures)
 
 pub returns-in-Polygon : goal.returns-in-Polygon
 unfolding spans_by
