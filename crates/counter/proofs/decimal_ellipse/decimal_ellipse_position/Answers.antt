@@ -18,11 +18,13 @@ use Rattle.counter.proofs.decimal_ellipse.decimal_ellipse_position.Goals as goal
 use Rattle.counter.proofs.decimal_ellipse.decimal_ellipse_position.Goals.{Start}
 
 -- the variables, that each is within its bound, and the two sides as the code computes them
+abbrev vs : Start → List Var
+vs c =
     let a = c.args in
     short 65536 a.m1 ∷ short 65536 a.m2 ∷ short 2000000000 a.c11 ∷ short 2000000000 a.c12 ∷ short 2000000000 a.c22 ∷ short 4096000 a.d2
     ∷ short 65536 a.x ∷ short 65536 a.y ∷ []
 
-known : (c : Start) → All w64 c
+known : (c : Start) → All w64 (vs c)
 known c = search (in_mag, in_of-positive)
 
 abbrev dx : Ex
@@ -41,11 +43,11 @@ R = var 5 ⊠ (var 2 ⊗ var 4 ⊖ var 3 ⊗ var 3)
 abbrev F : Ex
 F = lit 1000000 ⊗ (var 4 ⊗ (dx ⊗ dx) ⊖ lit 2 ⊗ (var 3 ⊗ (dx ⊗ dy)) ⊕ var 2 ⊗ (dy ⊗ dy))
 
-casts : (c : Start) → Casts w64 c
-casts c = zcasts w64 c (known c) tt
+casts : (c : Start) → Casts w64 (vs c)
+casts c = zcasts w64 (vs c) (known c) tt
 
-asks : (c : Start) → SumNeeds c L × SumNeeds c R
-asks c = (sum_needs c (known c) L tt, sum_needs c (known c) R tt)
+asks : (c : Start) → SumNeeds (vs c) L × SumNeeds (vs c) R
+asks c = (sum_needs (vs c) (known c) L tt, sum_needs (vs c) (known c) R tt)
 
 pub overflow_cast-dx : goal.overflow_cast-dx
 overflow_cast-dx c = search (casts c)
@@ -116,8 +118,8 @@ returns c =
     let a = c.args in
     let l =
     plus-is c.plus-left.ensures c.times.ensures c.times-2.ensures
-    ∙ sum-gives c (known (goal.at.returns c).Start) L tt
-    ∙ solve (values w64 c) (flat L) F tt in
-    let r = c.times-right.ensures ∙ sum-gives c (known (goal.at.returns c).Start) R tt in
+    ∙ sum-gives (vs (goal.at.returns c).Start) (known (goal.at.returns c).Start) L tt
+    ∙ solve (values w64 (vs (goal.at.returns c).Start)) (flat L) F tt in
+    let r = c.times-right.ensures ∙ sum-gives (vs (goal.at.returns c).Start) (known (goal.at.returns c).Start) R tt in
     c.position_by.ensures ∙ ap position_by (c.compare.ensures ∙ ap₂ order_of l r)
     ∙ order_sides (decimal_left a.m1 a.m2 a.c11 a.c12 a.c22 a.x a.y) (decimal_right a.c11 a.c12 a.c22 a.d2)

@@ -15,11 +15,13 @@ use Rattle.counter.proofs.ellipse.ellipse_position.Goals as goal
 use Rattle.counter.proofs.ellipse.ellipse_position.Goals.{Start}
 
 -- the variables, that each is within its bound, and the two sides
+abbrev vs : Start → List Var
+vs c =
     let a = c.args in
     short 65536 a.m1 ∷ short 65536 a.m2 ∷ short 16777216 a.c11 ∷ short 16777216 a.c12 ∷ short 16777216 a.c22 ∷ short 4096 a.d2
     ∷ short 65536 a.x ∷ short 65536 a.y ∷ []
 
-known : (c : Start) → All w64 c
+known : (c : Start) → All w64 (vs c)
 known c = search (in_mag, in_of-positive)
 
 abbrev dx : Ex
@@ -34,8 +36,8 @@ L = var 4 ⊗ (dx ⊗ dx) ⊖ lit 2 ⊗ (var 3 ⊗ (dx ⊗ dy)) ⊕ var 2 ⊗ (d
 abbrev R : Ex
 R = var 5 ⊗ (var 2 ⊗ var 4 ⊖ var 3 ⊗ var 3)
 
-asks : (c : Start) → Needs w64 c L × Needs w64 c R
-asks c = (zneeds w64 c (known c) L tt, zneeds w64 c (known c) R tt)
+asks : (c : Start) → Needs w64 (vs c) L × Needs w64 (vs c) R
+asks c = (zneeds w64 (vs c) (known c) L tt, zneeds w64 (vs c) (known c) R tt)
 
 pub overflow_cast-dx : goal.overflow_cast-dx
 overflow_cast-dx c = search (asks c)
@@ -107,24 +109,29 @@ pub overflow_mul-limit-3 : goal.overflow_mul-limit-3
 overflow_mul-limit-3 c = search (asks c)
 
 -- the two sides of the rule
+abbrev left : Start → ℤ
+left c = let a = c.args in form a.c11 a.c12 a.c22 (a.x -ℤ a.m1) (a.y -ℤ a.m2)
+
+abbrev right : Start → ℤ
+right c = let a = c.args in a.d2 *ℤ determinant a.c11 a.c12 a.c22
 
 pub returns-then-form-limit : goal.returns-then-form-limit
 unfolding ellipse_position
 returns-then-form-limit c =
-    let l = zgives w64 c (known (goal.at.returns-then-form-limit c).Start) L tt in
-    let r = zgives w64 c (known (goal.at.returns-then-form-limit c).Start) R tt in
-    sides_less c c (sym (ap₂ lt_z l r) ∙ c.if-form-limit.true)
+    let l = zgives w64 (vs (goal.at.returns-then-form-limit c).Start) (known (goal.at.returns-then-form-limit c).Start) L tt in
+    let r = zgives w64 (vs (goal.at.returns-then-form-limit c).Start) (known (goal.at.returns-then-form-limit c).Start) R tt in
+    sides_less (left (goal.at.returns-then-form-limit c).Start) (right (goal.at.returns-then-form-limit c).Start) (sym (ap₂ lt_z l r) ∙ c.if-form-limit.true)
 
 pub returns-then-limit-form : goal.returns-then-limit-form
 unfolding ellipse_position
 returns-then-limit-form c =
-    let l = zgives w64 c (known (goal.at.returns-then-limit-form c).Start) L tt in
-    let r = zgives w64 c (known (goal.at.returns-then-limit-form c).Start) R tt in
-    sides_more c c (sym (ap₂ lt_z r l) ∙ c.if-limit-form.true)
+    let l = zgives w64 (vs (goal.at.returns-then-limit-form c).Start) (known (goal.at.returns-then-limit-form c).Start) L tt in
+    let r = zgives w64 (vs (goal.at.returns-then-limit-form c).Start) (known (goal.at.returns-then-limit-form c).Start) R tt in
+    sides_more (left (goal.at.returns-then-limit-form c).Start) (right (goal.at.returns-then-limit-form c).Start) (sym (ap₂ lt_z r l) ∙ c.if-limit-form.true)
 
 pub returns : goal.returns
 unfolding ellipse_position
 returns c =
-    let l = zgives w64 c (known (goal.at.returns c).Start) L tt in
-    let r = zgives w64 c (known (goal.at.returns c).Start) R tt in
-    sides_equal c c (sym (ap₂ lt_z l r) ∙ c.if-form-limit.false) (sym (ap₂ lt_z r l) ∙ c.if-limit-form.false)
+    let l = zgives w64 (vs (goal.at.returns c).Start) (known (goal.at.returns c).Start) L tt in
+    let r = zgives w64 (vs (goal.at.returns c).Start) (known (goal.at.returns c).Start) R tt in
+    sides_equal (left (goal.at.returns c).Start) (right (goal.at.returns c).Start) (sym (ap₂ lt_z l r) ∙ c.if-form-limit.false) (sym (ap₂ lt_z r l) ∙ c.if-limit-form.false)

@@ -22,12 +22,14 @@ use Rattle.counter.proofs.ellipsoid.ellipsoid_position.Goals as goal
 use Rattle.counter.proofs.ellipsoid.ellipsoid_position.Goals.{Start}
 
 -- the variables, that each is within its bound, and the six products as the code computes them
+abbrev vs : Start → List Var
+vs c =
     let a = c.args in
     short 65536 a.m1 ∷ short 65536 a.m2 ∷ short 65536 a.m3
     ∷ short 16777216 a.c11 ∷ short 16777216 a.c12 ∷ short 16777216 a.c13 ∷ short 16777216 a.c22 ∷ short 16777216 a.c23 ∷ short 16777216 a.c33
     ∷ short 4096 a.d2 ∷ short 65536 a.x ∷ short 65536 a.y ∷ short 65536 a.z ∷ []
 
-known : (c : Start) → All w64 c
+known : (c : Start) → All w64 (vs c)
 known c =
     let f = c.requires.0 in
     let e = c.requires.1 in (
@@ -62,8 +64,8 @@ known c =
       ),
     )
 
-casts : (c : Start) → Casts w64 c
-casts c = zcasts w64 c (known c) tt
+casts : (c : Start) → Casts w64 (vs c)
+casts c = zcasts w64 (vs c) (known c) tt
 
 abbrev dx : Ex
 dx = var 10 ⊖ var 0
@@ -95,8 +97,8 @@ w23 = (var 4 ⊗ var 5 ⊖ var 3 ⊗ var 7) ⊠ (lit 2 ⊗ (dy ⊗ dz))
 abbrev all : Sum
 all = ((w11 ⊞ w22) ⊞ w33) ⊞ ((w12 ⊞ w13) ⊞ w23)
 
-asks : (c : Start) (t : Sum) → T (parts-fit c t) → SumNeeds c t
-asks c t n = sum_needs c (known c) t n
+asks : (c : Start) (t : Sum) → T (parts-fit (vs c) t) → SumNeeds (vs c) t
+asks c t n = sum_needs (vs c) (known c) t n
 
 pub overflow_cast-dx : goal.overflow_cast-dx
 overflow_cast-dx c = search (casts c)
@@ -256,7 +258,7 @@ returns c =
     let others = plus-is c.plus-4.ensures next-two c.times-w23.ensures in
     let sum =
     plus-is c.plus-sum.ensures squares others
-    ∙ sum-gives c (known (goal.at.returns c).Start) all tt
+    ∙ sum-gives (vs (goal.at.returns c).Start) (known (goal.at.returns c).Start) all tt
     ∙ gathered-is matrix (a.x -ℤ a.m1) (a.y -ℤ a.m2) (a.z -ℤ a.m3) a.d2 in
     let left = ellipsoid_left a.m1 a.m2 a.m3 matrix a.x a.y a.z in
     let right = ellipsoid_right matrix a.d2 in

@@ -13,10 +13,12 @@ use Rattle.counter.proofs.polygon.offset_of.Goals as goal
 use Rattle.counter.proofs.polygon.offset_of.Goals.{Start}
 
 -- the variables, that each is within its bound, and the two differences
+abbrev vs : Start → List Var
+vs c =
     let a = c.args in
     short 65536 (get_or a.v.now a.i (pos 0)) ∷ short 65536 (get_or a.v.now (a.i + 1) (pos 0)) ∷ short 65536 a.x ∷ short 65536 a.y ∷ []
 
-known : (c : Start) → All w64 c
+known : (c : Start) → All w64 (vs c)
 known c =
     let a = c.args in
     let p = c.requires.0.on_scale in
@@ -28,8 +30,8 @@ Right = var 2 ⊖ var 0
 abbrev Up : Ex
 Up = var 3 ⊖ var 1
 
-asks : (c : Start) → Needs w64 c Right × Needs w64 c Up
-asks c = (zneeds w64 c (known c) Right tt, zneeds w64 c (known c) Up tt)
+asks : (c : Start) → Needs w64 (vs c) Right × Needs w64 (vs c) Up
+asks c = (zneeds w64 (vs c) (known c) Right tt, zneeds w64 (vs c) (known c) Up tt)
 
 pub overflow_cast-right : goal.overflow_cast-right
 overflow_cast-right c = search (asks c)
@@ -51,4 +53,4 @@ overflow_sub-up c = search (asks (goal.at.overflow_sub-up c).Start)
 
 pub returns : goal.returns
 returns c =
-    record { right_is = zgives w64 c (known (goal.at.returns c).Start) Right tt; up_is = zgives w64 c (known (goal.at.returns c).Start) Up tt }
+    record { right_is = zgives w64 (vs (goal.at.returns c).Start) (known (goal.at.returns c).Start) Right tt; up_is = zgives w64 (vs (goal.at.returns c).Start) (known (goal.at.returns c).Start) Up tt }

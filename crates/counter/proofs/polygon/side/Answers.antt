@@ -9,18 +9,20 @@ use Rattle.counter.proofs.polygon.side.Goals as goal
 use Rattle.counter.proofs.polygon.side.Goals.{Start}
 
 -- the variables, that each is within its bound, and the expression
+abbrev vs : Start → List Var
+vs c =
     let a = c.args.a in
     let b = c.args.b in
     own 131072 a.right ∷ own 131072 a.up ∷ own 131072 b.right ∷ own 131072 b.up ∷ []
 
-known : (c : Start) → All w64 c
+known : (c : Start) → All w64 (vs c)
 known c = search rules
 
 abbrev E : Ex
 E = var 0 ⊗ var 3 ⊖ var 2 ⊗ var 1
 
-asks : (c : Start) → Needs w64 c E
-asks c = zneeds w64 c (known c) E tt
+asks : (c : Start) → Needs w64 (vs c) E
+asks c = zneeds w64 (vs c) (known c) E tt
 
 pub overflow_mul-result : goal.overflow_mul-result
 overflow_mul-result c = search (asks (goal.at.overflow_mul-result c).Start)
@@ -32,4 +34,4 @@ pub overflow_sub-result : goal.overflow_sub-result
 overflow_sub-result c = search (asks (goal.at.overflow_sub-result c).Start)
 
 pub returns : goal.returns
-returns c = zgives w64 c (known (goal.at.returns c).Start) E tt
+returns c = zgives w64 (vs (goal.at.returns c).Start) (known (goal.at.returns c).Start) E tt

@@ -22,3 +22,18 @@ returns-in-DecimalEllip c =
 pub returns-in-Ellip3 : goal.returns-in-Ellip3
 returns-in-Ellip3 c =
     rw c.in-Ellip3.is (word_in_table _ _ c.requires.1 c.axes_word-in-Ellip3.type_inv c.axes_word-in-Ellip3.ensures)
+
+pub returns-in-Quad : goal.returns-in-Quad
+returns-in-Quad c = cc
+
+pub returns-in-And : goal.returns-in-And
+returns-in-And c = cc
+
+pub returns-in-Or : goal.returns-in-Or
+returns-in-Or c = cc
+
+pub returns-in-Not : goal.returns-in-Not
+returns-in-Not c = cc
+
+pub returns-in-Unknown : goal.returns-in-Unknown
+returns-in-Unknown c = cc

@@ -35,6 +35,8 @@ abbrev D : Sum
 D = var 0 ⊠ a11 ⊞ var 1 ⊠ a12 ⊞ var 2 ⊠ a13
 
 -- both tests, the first with an answer
+abbrev test : Start → Bool → Bool
+test c t = let a = c.args in t && lt_z (pos 0) (determinant3 (symmetric a.c11 a.c12 a.c13 a.c22 a.c23 a.c33))
 
 corner : (c : After-matrix_good) → let a = c.args in c.matrix_good.result ≡ matrix_good a.c11 a.c12 a.c22
 corner c = let f = c.ranges in simp (to_z-of_z, f.c11, f.c12, f.c22) at c.matrix_good.ensures
@@ -54,9 +56,18 @@ returns-then-matrix_good c =
     let w3 = (simp (to_z-of_z, f.c13, wider f.c13, kept3) at c.times-w3.ensures) ∙ ap (λ (z : ℤ). c.args.c13 *ℤ z) m3 in
     let d =
     plus-is c.plus-then-matrix_good.ensures (plus-is c.plus.ensures w1 w2) w3
-    ∙ sum-exact bounds (entries c) (known (goal.at.returns-then-matrix_good c).Start) D tt in
-    c.is_positive.ensures ∙ ap (lt_z (pos 0)) d ∙ sym (ap c (sym (corner (goal.at.returns-then-matrix_good c).After-matrix_good) ∙ c.if-matrix_good.true))
+    ∙ sum-exact bounds (entries (goal.at.returns-then-matrix_good c).Start) (known (goal.at.returns-then-matrix_good c).Start) D tt in
+    c.is_positive.ensures ∙ ap (lt_z (pos 0)) d ∙ sym (ap (test (goal.at.returns-then-matrix_good c).Start) (sym (corner (goal.at.returns-then-matrix_good c).After-matrix_good) ∙ c.if-matrix_good.true))
 
 pub returns : goal.returns
 unfolding matrix3_good
-returns c = sym (ap c (sym (corner (goal.at.returns c).After-matrix_good) ∙ c.if-matrix_good.false))
+returns c = sym (ap (test (goal.at.returns c).Start) (sym (corner (goal.at.returns c).After-matrix_good) ∙ c.if-matrix_good.false))
+
+pub overflow_cast-c11 : goal.overflow_cast-c11
+overflow_cast-c11 c = simp (to_z-of_z, c.ranges.c11) (wider c.ranges.c11)
+
+pub overflow_cast-c12 : goal.overflow_cast-c12
+overflow_cast-c12 c = simp (to_z-of_z, c.ranges.c12) (wider c.ranges.c12)
+
+pub overflow_cast-c13 : goal.overflow_cast-c13
+overflow_cast-c13 c = simp (to_z-of_z, c.ranges.c13) (wider c.ranges.c13)

@@ -15,3 +15,6 @@ loop-i-preserved c = c.loop-i.invariant ∙ find_goes_on _ _ _ c.loop-i-test.tru
 
 pub returns : goal.returns
 returns c = sym (c.loop-i.invariant ∙ find_end _ _ _ c.loop-i-test.false)
+
+pub loop-i-init : goal.loop-i-init
+loop-i-init c = refl
