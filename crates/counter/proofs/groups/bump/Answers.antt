@@ -36,16 +36,16 @@ module _ (in-loop : In-loop-r) where
   r = in-loop.loop-r.r
 
   counts_are : counts ≡ list_from (bump_at old (in_set sets e)) 0 r ++ drop r old
-  counts_are = in-loop.loop-r.inv.1
+  counts_are = in-loop.loop-r.invariant.1
 
   low : r < 64
   low = omega arith
 
   read : get_or counts r 0 ≡ get_or old r 0
-  read = ap (λ (l : List ℕ). get_or l r 0) counts_are ∙ bump_read old _ r low in-loop.pre.0
+  read = ap (λ (l : List ℕ). get_or l r 0) counts_are ∙ bump_read old _ r low in-loop.requires.0
 
   small : get_or counts r 0 < 2 ^ 63
-  small = rw read (in-loop.pre.2 r low)
+  small = rw read (in-loop.requires.2 r low)
 
   -- what is written
   abbrev raised : ℕ
@@ -57,14 +57,14 @@ module _ (in-loop : In-loop-r) where
 
 pub overflow_add-counts : goal.overflow_add-counts
 overflow_add-counts c =
-    let l = small c in
+    let l = small (goal.at.overflow_add-counts c).In-loop-r in
     omega arith
 
 pub loop-r-preserved : goal.loop-r-preserved
 loop-r-preserved c =
-    let written = ap (λ (l : List ℕ). set l (r c) (raised c)) (counts_are c) in
-    let test = in_set (sets c) (e c) in
-    (search rules, written ∙ bump_write (old c) test (r c) (low c) c.requires.0 (raised_is c))
+    let written = ap (λ (l : List ℕ). set l (r (goal.at.loop-r-preserved c).In-loop-r) (raised (goal.at.loop-r-preserved c).In-loop-r)) (counts_are (goal.at.loop-r-preserved c).In-loop-r) in
+    let test = in_set (sets (goal.at.loop-r-preserved c).In-loop-r) (e (goal.at.loop-r-preserved c).In-loop-r) in
+    (search rules, written ∙ bump_write (old (goal.at.loop-r-preserved c).In-loop-r) test (r (goal.at.loop-r-preserved c).In-loop-r) (low (goal.at.loop-r-preserved c).In-loop-r) c.requires.0 (raised_is (goal.at.loop-r-preserved c).In-loop-r))
 
 pub returns : goal.returns
 returns c =

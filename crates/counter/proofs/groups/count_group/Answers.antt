@@ -43,21 +43,21 @@ module _ (entry : Start) where
   group = take (j * n + g * n - j * n) (drop (j * n) events)
 
   group-part : group ≡ part events (j * n) (g * n)
-  group-part = group-is n events j g entry.pre.4
+  group-part = group-is n events j g entry.requires.4
 
 pub sets_of-sets-requires : goal.sets_of-sets-requires
 sets_of-sets-requires c =
-    (c.requires.0, c.requires.1, candidates (n c) (group c) (g c) c.requires.3 (omega arith) c.Taken-of.ensures)
+    (c.requires.0, c.requires.1, candidates (n (goal.at.sets_of-sets-requires c).Start) (group (goal.at.sets_of-sets-requires c).Start) (g (goal.at.sets_of-sets-requires c).Start) c.requires.3 (omega arith) c.Taken-of.ensures)
 
 pub number_in-steps-requires : goal.number_in-steps-requires
 unfolding step_count
 number_in-steps-requires c =
-    let w = passing (plan c) c.requires.0 in
+    let w = passing (plan (goal.at.number_in-steps-requires c).Start) c.requires.0 in
     (omega arith, omega arith)
 
 pub loop-e-init : goal.loop-e-init
 loop-e-init c =
-    (omega arith, rw (add-zero (j c)) c.requires.2)
+    (omega arith, rw (add-zero (j (goal.at.loop-e-init c).Start)) c.requires.2)
 
 -- the number of steps is read
 module _ (after-number-in : After-number_in-steps) where
@@ -66,10 +66,10 @@ module _ (after-number-in : After-number_in-steps) where
   steps_are = after-number-in.number_in-steps.ensures
 
   steps-few : after-number-in.number_in-steps.result ≤ 64
-  steps-few = rw steps_are (passing (plan start) after-number-in.pre.0).few
+  steps-few = rw steps_are (passing (plan start) after-number-in.requires.0).few
 
 pub in_none-unclaimed-requires : goal.in_none-unclaimed-requires
-in_none-unclaimed-requires c = (c.sets_of-sets.ensures.long, steps-few c)
+in_none-unclaimed-requires c = (c.sets_of-sets.ensures.long, steps-few (goal.at.in_none-unclaimed-requires c).After-number_in-steps)
 
 -- in the loop: there is room for one event more in the tally, and what it is then
 module _ (in-loop : In-loop-e) where
@@ -89,7 +89,7 @@ module _ (in-loop : In-loop-e) where
   e = in-loop.loop-e.e
 
   tally-is : t ≡ tally_of (plan entry) (events entry) (j entry + e)
-  tally-is = in-loop.loop-e.inv.1
+  tally-is = in-loop.loop-e.invariant.1
 
   low : e < 64
   low = omega arith
@@ -115,56 +115,56 @@ module _ (in-loop : In-loop-e) where
   more-taken : {u : Tally} → has_bit taken e ≡ true → u ≡ with_taken t (in_set sets e) (has_bit unclaimed e)
       → u ≡ tally_of (plan entry) (events entry) (j entry + (e + 1))
   more-taken =
-      one-taken (plan entry) (events entry) in-loop.pre.1 (j entry) (g entry) (group-part entry) in-loop.Taken-of.ensures
-      e low in-loop.loop-e-test.taken tally-is in-loop.pre.0 (steps_are after-number-in) (steps-few after-number-in)
+      one-taken (plan entry) (events entry) in-loop.requires.1 (j entry) (g entry) (group-part entry) in-loop.Taken-of.ensures
+      e low in-loop.loop-e-test.true tally-is in-loop.requires.0 (steps_are after-number-in) (steps-few after-number-in)
       in-loop.sets_of-sets.ensures in-loop.in_none-unclaimed.ensures
 
   more-spoilt : {u : Tally} → has_bit taken e ≡ false → u ≡ with_spoilt t → u ≡ tally_of (plan entry) (events entry) (j entry + (e + 1))
   more-spoilt =
-      one-spoilt (plan entry) (events entry) in-loop.pre.1 (j entry) (g entry) (group-part entry) in-loop.Taken-of.ensures
-      e low in-loop.loop-e-test.taken tally-is
+      one-spoilt (plan entry) (events entry) in-loop.requires.1 (j entry) (g entry) (group-part entry) in-loop.Taken-of.ensures
+      e low in-loop.loop-e-test.true tally-is
 
 pub bump-requires : goal.bump-requires
 bump-requires c =
-    let m = steps_are c in
+    let m = steps_are (goal.at.bump-requires c).After-number_in-steps in
     let sorted = c.sets_of-sets.ensures in (
-      long c,
+      long (goal.at.bump-requires c).In-loop-e,
       sorted.long,
-      room c,
-      steps-few c,
-      low c,
-      λ r l k. sets-low (plan c) (n c) (group c) c.pre.0 sorted (e c) (low c) r (omega arith) k,
+      room (goal.at.bump-requires c).In-loop-e,
+      steps-few (goal.at.bump-requires c).After-number_in-steps,
+      low (goal.at.bump-requires c).In-loop-e,
+      λ r l k. sets-low (plan (goal.at.bump-requires c).Start) (n (goal.at.bump-requires c).Start) (group (goal.at.bump-requires c).Start) c.requires.0 sorted (e (goal.at.bump-requires c).In-loop-e) (low (goal.at.bump-requires c).In-loop-e) r (omega arith) k,
     )
 
 pub overflow_add-t : goal.overflow_add-t
 overflow_add-t c =
-    let l = room-taken c in
+    let l = room-taken (goal.at.overflow_add-t c).In-loop-e in
     omega arith
 
 pub overflow_add-t-then-bit_in : goal.overflow_add-t-then-bit_in
 overflow_add-t-then-bit_in c =
-    let l = room-unclaimed c in
+    let l = room-unclaimed (goal.at.overflow_add-t-then-bit_in c).In-loop-e in
     omega arith
 
 pub overflow_add-t-else-bit_in : goal.overflow_add-t-else-bit_in
 overflow_add-t-else-bit_in c =
-    let l = room-spoilt c in
+    let l = room-spoilt (goal.at.overflow_add-t-else-bit_in c).In-loop-e in
     omega arith
 
 pub loop-e-preserved : goal.loop-e-preserved
 unfolding has_bit
 loop-e-preserved c =
     let bit = sym c.bit_in.ensures in
-    let raised = plus-odd (unclaimed c / 2 ^ e c) (t c).unclaimed in (
+    let raised = plus-odd (unclaimed (goal.at.loop-e-preserved c).In-loop-e / 2 ^ e (goal.at.loop-e-preserved c).In-loop-e) (t (goal.at.loop-e-preserved c).In-loop-e).unclaimed in (
       search rules,
       ⊎_elim
-          (λ bumped. more-taken c (bit ∙ bumped.0.taken) (bumped.4 ∙ rw (← bumped.3.ensures, raised)))
-          (λ spoilt. more-spoilt c (bit ∙ spoilt.0.left) spoilt.1)
+          (λ bumped. more-taken (goal.at.loop-e-preserved c).In-loop-e (bit ∙ bumped.0.taken) (bumped.4 ∙ rw (← bumped.3.ensures, raised)))
+          (λ spoilt. more-spoilt (goal.at.loop-e-preserved c).In-loop-e (bit ∙ spoilt.0.left) spoilt.1)
           c.if-bit_in.branch,
     )
 
 pub returns : goal.returns
 returns c =
     let loop = c.loop-e in
-    let q : loop.e ≡ g c = omega arith in
+    let q : loop.e ≡ g (goal.at.returns c).Start = omega arith in
     rw q at loop.invariant.1

@@ -37,29 +37,29 @@ module _ (in-loop : In-loop-left) where
   abbrev place : ℕ
   place = in-loop.loop-left.at
 
-  sound : Sound plan n place × AllSound (in-loop.loop-left.left - 1) plan n (next_at plan place)
+  sound : Sound plan n place × AllSound (in-loop.loop-left.false - 1) plan n (next_at plan place)
   sound =
       let loop = in-loop.loop-left in
-      now-sound loop.left plan in-loop.args.group.now n 0 place in-loop.loop-left-test.taken loop.inv.sound
+      now-sound loop.left plan in-loop.args.group.now n 0 place in-loop.loop-left-test.true loop.inv.sound
 
   now : Sound plan n place
   now = sound.0
 
 pub step_of-found-requires : goal.step_of-found-requires
 step_of-found-requires c =
-    (c.requires.2, now c, c.loop-left.invariant.long)
+    (c.requires.2, now (goal.at.step_of-found-requires c).In-loop-left, c.loop-left.invariant.long)
 
 pub overflow_add-at : goal.overflow_add-at
 overflow_add-at c =
-    let h = four-inside (now c) in
+    let h = four-inside (now (goal.at.overflow_add-at c).In-loop-left) in
     let g = c.well_formed in
     omega arith
 
 pub number_in-r-requires : goal.number_in-r-requires
 unfolding region_at
 number_in-r-requires c =
-    let h = four-inside (now c) in
-    let l = region-below (now c) in
+    let h = four-inside (now (goal.at.number_in-r-requires c).In-loop-left) in
+    let l = region-below (now (goal.at.number_in-r-requires c).In-loop-left) in
     (omega arith, omega arith)
 
 -- the region of the step is one of the 64
@@ -67,7 +67,7 @@ module _ (after-number-in2 : After-number_in-r) where
   region-low : after-number-in2.number_in-r.result < 64
   unfolding region_at
   region-low =
-      let l = region-below (now after-number-in2) in
+      let l = region-below (now after-number-in2.before.before.before) in
       omega arith
 
 pub offset_bounds-sets-r : goal.offset_bounds-sets-r
@@ -84,28 +84,28 @@ bounds-sets-r-in-loop-left c = region-low c
 
 pub overflow_add-at-in-loop-left : goal.overflow_add-at-in-loop-left
 overflow_add-at-in-loop-left c =
-    let h = four-inside (now c) in
+    let h = four-inside (now (goal.at.overflow_add-at-in-loop-left c).In-loop-left) in
     let g = c.well_formed in
     omega arith
 
 pub overflow_add-at-in-loop-left-2 : goal.overflow_add-at-in-loop-left-2
 overflow_add-at-in-loop-left-2 c =
-    let h = four-inside (now c) in
+    let h = four-inside (now (goal.at.overflow_add-at-in-loop-left-2 c).In-loop-left) in
     let g = c.well_formed in
     omega arith
 
 pub number_in-requires : goal.number_in-requires
 unfolding length_at
 number_in-requires c =
-    let h = four-inside (now c) in
-    let l = length-below (now c) in
+    let h = four-inside (now (goal.at.number_in-requires c).In-loop-left) in
+    let l = length-below (now (goal.at.number_in-requires c).In-loop-left) in
     (omega arith, omega arith)
 
 pub overflow_add-at-in-loop-left-3 : goal.overflow_add-at-in-loop-left-3
 unfolding length_at
 overflow_add-at-in-loop-left-3 c =
-    let h = four-inside (now c) in
-    let l = length-below (now c) in
+    let h = four-inside (now (goal.at.overflow_add-at-in-loop-left-3 c).In-loop-left) in
+    let l = length-below (now (goal.at.overflow_add-at-in-loop-left-3 c).In-loop-left) in
     let g = c.well_formed in
     omega arith
 
@@ -116,8 +116,8 @@ loop-left-preserved c =
     let args = c.args in
     let found = c.step_of-found.ensures inv.bits inv.matched in
     rw (c.number_in.ensures, c.number_in-r.ensures)
-    (settling_next (plan c) (n c) args.group.now args.taken inv c.loop-left-test.true (sound c).1
-    (region-below (now c)) found)
+    (settling_next (plan (goal.at.loop-left-preserved c).In-loop-left) (n (goal.at.loop-left-preserved c).In-loop-left) args.group.now args.taken inv c.loop-left-test.true (sound (goal.at.loop-left-preserved c).In-loop-left).1
+    (region-below (now (goal.at.loop-left-preserved c).In-loop-left)) found)
 
 pub returns : goal.returns
 returns c =

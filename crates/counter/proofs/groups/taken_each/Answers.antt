@@ -28,7 +28,7 @@ module _ (in-loop : In-loop-e) where
   e = in-loop.loop-e.e
 
   lies : e * n + n ≤ length group
-  lies = event-inside n e in-loop.args.to (length group) in-loop.loop-e-test.taken in-loop.pre.2
+  lies = event-inside n e in-loop.args.to (length group) in-loop.loop-e-test.true in-loop.requires.2
 
   event-is : take (e * n + n - e * n) (drop (e * n) group) ≡ event_at n group e
   event-is = event-part n group e lies
@@ -66,7 +66,7 @@ loop-e-preserved c =
     let loop = c.loop-e in
     let h = c.loop-e-test.true in
     let p = c.requires.1 in
-    let flag = rw (event-is c) at c.on_scale-whole.ensures in
+    let flag = rw (event-is (goal.at.loop-e-preserved c).In-loop-e) at c.on_scale-whole.ensures in
     (search rules, first_next _ loop.e (omega arith) flag loop.invariant.1 c.settle-all.ensures)
 
 pub returns : goal.returns

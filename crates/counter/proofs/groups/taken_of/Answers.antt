@@ -45,7 +45,7 @@ loop-e-smaller c =
 pub loop-e-preserved : goal.loop-e-preserved
 loop-e-preserved c =
     let h = c.loop-e-test.true in
-    let s = some c in
+    let s = some (goal.at.loop-e-preserved c).After-least in
     (omega arith, c.taken_some-taken.ensures)
 
 pub returns : goal.returns

@@ -26,10 +26,10 @@ module _ (b : In-loop-left) where
   abbrev place : ℕ
   place = b.loop-left.at
 
-  sound : Sound plan (length event) place × AllSound (b.loop-left.left - 1) plan (length event) (next_at plan place)
+  sound : Sound plan (length event) place × AllSound (b.loop-left.false - 1) plan (length event) (next_at plan place)
   sound =
       let loop = b.loop-left in
-      now-sound loop.left plan event (length event) loop.members place b.loop-left-test.taken loop.inv.0
+      now-sound loop.left plan event (length event) loop.members place b.loop-left-test.true loop.inv.0
 
   now : Sound plan (length event) place
   now = sound.0
@@ -52,22 +52,22 @@ step_position-position-requires c = (c.requires.2, now c)
 
 pub overflow_add-at : goal.overflow_add-at
 overflow_add-at c =
-    let h = four-inside (now c) in
+    let h = four-inside (now (goal.at.overflow_add-at c).In-loop-left) in
     let g = c.well_formed in
     omega arith
 
 pub number_in-region-requires : goal.number_in-region-requires
 unfolding region_at
 number_in-region-requires c =
-    let h = four-inside (now c) in
-    let l = region-below (now c) in
+    let h = four-inside (now (goal.at.number_in-region-requires c).In-loop-left) in
+    let l = region-below (now (goal.at.number_in-region-requires c).In-loop-left) in
     (omega arith, omega arith)
 
 -- the region that is read is below 64
 region-small : (c : After-number_in-region) → c.number_in-region.result < 64
 unfolding region_at
 region-small c =
-    let l = region-below (now c) in
+    let l = region-below (now c.before.before) in
     let e = c.number_in-region.ensures in
     omega arith
 
@@ -98,7 +98,7 @@ pub number_in-requires : goal.number_in-requires
 unfolding length_at
 number_in-requires c =
     let h = step-inside c in
-    let l = length-below (now c) in
+    let l = length-below (now (goal.at.number_in-requires c).In-loop-left) in
     (omega arith, omega arith)
 
 pub overflow_add-at-in-loop-left-3 : goal.overflow_add-at-in-loop-left-3
@@ -107,7 +107,7 @@ overflow_add-at-in-loop-left-3 c =
     let b = in-loop c in
     let e = c.number_in.ensures in
     let g = b.before.before.before.good in
-    let h = step-inside c in
+    let h = step-inside (goal.at.overflow_add-at-in-loop-left-3 c).After-settle-outline in
     let l = length-below (now b) in
     omega arith
 
@@ -120,12 +120,12 @@ loop-left-preserved c =
     let on = c.is_on_outline-on.ensures ∙ tells.1 in
     let region = c.number_in-region.ensures in
     let members = c.settle-members.ensures in (
-      rw c.number_in.ensures (sound c).1,
+      rw c.number_in.ensures (sound (goal.at.loop-left-preserved c).In-loop-left).1,
       loop.invariant.1
-          ∙ settled-more loop.left (plan c) (event c) (length (event c)) loop.members (place c) c.loop-left-test.true
+          ∙ settled-more loop.left (plan (goal.at.loop-left-preserved c).In-loop-left) (event (goal.at.loop-left-preserved c).In-loop-left) (length (event (goal.at.loop-left-preserved c).In-loop-left)) loop.members (place (goal.at.loop-left-preserved c).In-loop-left) c.loop-left-test.true
           member region members c.number_in.ensures,
       loop.invariant.2
-          ∙ outline-more loop.left (plan c) (event c) (length (event c)) loop.members (place c) c.loop-left-test.true loop.outline
+          ∙ outline-more loop.left (plan (goal.at.loop-left-preserved c).In-loop-left) (event (goal.at.loop-left-preserved c).In-loop-left) (length (event (goal.at.loop-left-preserved c).In-loop-left)) loop.members (place (goal.at.loop-left-preserved c).In-loop-left) c.loop-left-test.true loop.outline
           member on region members c.settle-outline.ensures c.number_in.ensures,
     )
 

@@ -57,13 +57,13 @@ module _ (after-least : After-least-g) where
 
   some : 0 < g
   some =
-      let h = after-least.loop-rest-test.taken in
+      let h = after-least.loop-rest-test.true in
       let q = after-least.least-g.ensures in
       omega arith
 
   inside : j + g ≤ length after-least.args.events.now / n
   inside =
-      let h = after-least.loop-rest.inv.0 in
+      let h = after-least.loop-rest.invariant.0 in
       let q = after-least.least-g.ensures in
       omega arith
 
@@ -78,7 +78,7 @@ pub count_group-t-requires : goal.count_group-t-requires
 unfolding width
 count_group-t-requires c =
     (
-      c.pre,
+      c.requires,
       c.number_in-n.ensures,
       c.loop-rest.invariant.1,
       let q = c.least-g.ensures in omega arith,
@@ -87,20 +87,20 @@ count_group-t-requires c =
     )
 
 pub overflow_add-j : goal.overflow_add-j
-overflow_add-j c = let f = fits c in omega arith
+overflow_add-j c = let f = fits (goal.at.overflow_add-j c).After-least-g in omega arith
 
 pub overflow_sub-rest : goal.overflow_sub-rest
 overflow_sub-rest c = let q = c.least-g.ensures in omega arith
 
 pub loop-rest-smaller : goal.loop-rest-smaller
 loop-rest-smaller c =
-    let s = some c in
+    let s = some (goal.at.loop-rest-smaller c).After-least-g in
     let h = c.loop-rest-test.true in
     omega arith
 
 pub loop-rest-preserved : goal.loop-rest-preserved
 loop-rest-preserved c =
-    let h = c.loop-rest.inv.0 in
+    let h = c.loop-rest.invariant.0 in
     let q = c.least-g.ensures in
     (omega arith, c.count_group-t.ensures)
 

@@ -27,24 +27,24 @@ module _ (entry : Start) where
   a-right = fit tt entry.requires.0.right_in
 
   b-right : SFits w64 entry.args.b.right
-  b-right = fit tt entry.pre.1.right_in
+  b-right = fit tt entry.requires.1.right_in
 
   a-up : SFits w64 entry.args.a.up
-  a-up = fit tt entry.pre.0.up_in
+  a-up = fit tt entry.requires.0.up_in
 
   b-up : SFits w64 entry.args.b.up
-  b-up = fit tt entry.pre.1.up_in
+  b-up = fit tt entry.requires.1.up_in
 
 -- what the calls answer, of the numbers themselves
 right_is : (c : After-between)
     → (let args = c.args in c.between.result ≡ between args.a.right args.b.right (pos 0))
-right_is c = simp (to_z-of_z, a-right c, b-right c) at c.between.ensures
+right_is c = simp (to_z-of_z, a-right c.before.before.before.before.before, b-right c.before.before.before.before.before) at c.between.ensures
 
 up_is : (c : After-between-then-between)
     → (let args = c.args in
     c.between-then-between.result ≡ between args.a.up args.b.up (pos 0))
 up_is c =
-    simp (to_z-of_z, a-up c, b-up c) at c.between-then-between.ensures
+    simp (to_z-of_z, a-up c.before.before.before.before.before.before.before.before.before, b-up c.before.before.before.before.before.before.before.before.before) at c.between-then-between.ensures
 
 -- the point is on the edge's line
 line : (c : Then-s-eq0) → eq_z c.side-s.result (pos 0) ≡ true

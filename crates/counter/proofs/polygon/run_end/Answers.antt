@@ -24,18 +24,18 @@ module _ (entry : Start) where
   v = entry.args.v.now
 
   height : (k : ℕ) → SFits w32 (get_or v k (pos 0))
-  height k = scale_fits (get_or v k (pos 0)) (entry.pre.0.on_scale k)
+  height k = scale_fits (get_or v k (pos 0)) (entry.requires.0.on_scale k)
 
   none : Apart v entry.args.y entry.args.i entry.args.i
-  none = apart_none v entry.pre.0.even entry.args.y entry.args.i entry.pre.1 (let l = entry.pre.2 in omega arith)
+  none = apart_none v entry.requires.0.even entry.args.y entry.args.i entry.requires.1 (let l = entry.requires.2 in omega arith)
 
 pub vertex_before-requires : goal.vertex_before-requires
 vertex_before-requires c = let six = c.requires.0.three in (omega arith, c.requires.1)
 
 -- the vertex before is there
-room : (c : After-vertex_before) → c.vertex_before.result + 1 < length (v c)
+room : (c : After-vertex_before) → c.vertex_before.result + 1 < length (v c.before)
 room c =
-    rw c.vertex_before.ensures (before_in (v c) c.args.i c.requires.0.three (let l = c.requires.2 in omega arith))
+    rw c.vertex_before.ensures (before_in (v c.before) c.args.i c.requires.0.three (let l = c.requires.2 in omega arith))
 
 pub overflow_add-h : goal.overflow_add-h
 overflow_add-h c = let r = room c in omega arith
@@ -47,17 +47,17 @@ pub bounds-v-vertex_before : goal.bounds-v-vertex_before
 bounds-v-vertex_before c = room c
 
 pub returns-then-h-y : goal.returns-then-h-y
-returns-then-h-y c = none c
+returns-then-h-y c = none (goal.at.returns-then-h-y c).Start
 
 pub loop-k-init : goal.loop-k-init
 loop-k-init c =
     let y = c.args.y in
     let j = c.vertex_before.result in
-    let h = get_or (v c) (j + 1) (pos 0) in
-    let f = height c (j + 1) in
+    let h = get_or (v (goal.at.loop-k-init c).Start) (j + 1) (pos 0) in
+    let f = height (goal.at.loop-k-init c).Start (j + 1) in
     let g = c.ranges.y in
     let differ = sym (eqb-bits w32 h y f g) ∙ ne_eqb _ _ c.if-h-y.false in
-    simp (to_z-of_z, f, g) (none c, rw (← c.vertex_before.ensures) (differs-beyond h y differ))
+    simp (to_z-of_z, f, g) (none (goal.at.loop-k-init c).Start, rw (← c.vertex_before.ensures) (differs-beyond h y differ))
 
 pub overflow_add-k : goal.overflow_add-k
 overflow_add-k c = let l = c.loop-k.invariant.0.to in omega arith
@@ -80,13 +80,13 @@ pub loop-k-preserved : goal.loop-k-preserved
 loop-k-preserved c =
     let y = c.args.y in
     let k = c.loop-k.k in
-    let h = get_or (v c) (c.vertex_before.result + 1) (pos 0) in
-    let f = height c (c.vertex_before.result + 1) in
+    let h = get_or (v (goal.at.loop-k-preserved c).Start) (c.vertex_before.result + 1) (pos 0) in
+    let f = height (goal.at.loop-k-preserved c).Start (c.vertex_before.result + 1) in
     let g = c.ranges.y in
     let inv = simp (to_z-of_z, f, g) at c.loop-k.invariant in
     let beyond-four = simp (to_z-of_z, f, g) at (sym c.four_beyond.ensures ∙ not-false _ c.if-not-four_beyond.false-raw) in
     simp (to_z-of_z, f, g)
-    (apart_more (v c) c.requires.0.even y (lt_z y h) c.args.i k inv.0 c.loop-k-test.true inv.1 beyond-four)
+    (apart_more (v (goal.at.loop-k-preserved c).Start) c.requires.0.even y (lt_z y h) c.args.i k inv.0 c.loop-k-test.true inv.1 beyond-four)
 
 pub returns : goal.returns
 returns c = simp (to_z-of_z, c.ranges.y) at c.loop-k.invariant.0

@@ -34,7 +34,7 @@ module _ (entry : Start) where
 
 pub overflow_sub-result : goal.overflow_sub-result
 overflow_sub-result c =
-    simp (to_z-of_z, to-fits c, c.ranges.s) (difference-fits (lt_z c.args.b.up (pos 0)) (lt_z c.args.s (pos 0)))
+    simp (to_z-of_z, to-fits (goal.at.overflow_sub-result c).Start, c.ranges.s) (difference-fits (lt_z c.args.b.up (pos 0)) (lt_z c.args.s (pos 0)))
 
 pub returns-then-a-b : goal.returns-then-a-b
 returns-then-a-b c =
@@ -42,12 +42,12 @@ returns-then-a-b c =
     let above = lt_z args.b.up (pos 0) in
     let negative = lt_z args.s (pos 0) in
     let crossed : one_of (lt_z args.a.up (pos 0)) above ≡ true =
-    one-of (lt_z args.a.up (pos 0)) above ∙ simp (to_z-of_z, from-fits c, to-fits c) at c.if-a-b.true in
-    simp (to_z-of_z, to-fits c, c.ranges.s, difference-fits above negative) (rw (crossed, one_bit above, one_bit negative))
+    one-of (lt_z args.a.up (pos 0)) above ∙ simp (to_z-of_z, from-fits (goal.at.returns-then-a-b c).Start, to-fits (goal.at.returns-then-a-b c).Start) at c.if-a-b.true in
+    simp (to_z-of_z, to-fits (goal.at.returns-then-a-b c).Start, c.ranges.s, difference-fits above negative) (rw (crossed, one_bit above, one_bit negative))
 
 pub returns-else-a-b : goal.returns-else-a-b
 returns-else-a-b c =
     let args = c.args in
     let apart : one_of (lt_z args.a.up (pos 0)) (lt_z args.b.up (pos 0)) ≡ false =
-    one-of (lt_z args.a.up (pos 0)) (lt_z args.b.up (pos 0)) ∙ simp (to_z-of_z, from-fits c, to-fits c) at c.if-a-b.false in
+    one-of (lt_z args.a.up (pos 0)) (lt_z args.b.up (pos 0)) ∙ simp (to_z-of_z, from-fits (goal.at.returns-else-a-b c).Start, to-fits (goal.at.returns-else-a-b c).Start) at c.if-a-b.false in
     rw apart

@@ -73,16 +73,16 @@ module _ (c : After-offset_of-next) where
   i = c.loop-i.i
 
   before_it : walked v x y (i / 2) ≡ Summed (to_z w64 c.loop-i.sum-bits)
-  before_it = simp (to_z-of_z, c.fits.x, c.fits.y) at c.loop-i.inv.0
+  before_it = simp (to_z-of_z, c.ranges.x, c.ranges.y) at c.loop-i.invariant.0
 
   last-seen : SeenBefore v x y i c.loop-i.last
-  last-seen = simp (to_z-of_z, c.fits.x, c.fits.y) at c.loop-i.inv.1
+  last-seen = simp (to_z-of_z, c.ranges.x, c.ranges.y) at c.loop-i.invariant.1
 
   next-seen : SeenFrom x y (get_or v i (pos 0)) (get_or v (i + 1) (pos 0)) c.offset_of-next.result
-  next-seen = simp (to_z-of_z, c.fits.x, c.fits.y) at c.offset_of-next.ensures
+  next-seen = simp (to_z-of_z, c.ranges.x, c.ranges.y) at c.offset_of-next.ensures
 
   near : (k : ℕ) {offset : Offset} → SeenFrom x y (get_or v k (pos 0)) (get_or v (k + 1) (pos 0)) offset → Near offset
-  near k = let on = c.pre.0.on_scale in seen-near c.pre.1.0 c.pre.1.1 (on k) (on (k + 1))
+  near k = let on = c.requires.0.on_scale in seen-near c.requires.1.0 c.requires.1.1 (on k) (on (k + 1))
 
 pub past_edge-requires : goal.past_edge-requires
 past_edge-requires c =
@@ -92,12 +92,12 @@ past_edge-requires c =
 
 -- what the walk holds past the edge
 past-it : (c : After-past_edge)
-    → (walked (v c) (x c) (y c) ((i c + 2) / 2) ≡ c.past_edge.result)
+    → (walked (v c.before) (x c.before) (y c.before) ((i c.before + 2) / 2) ≡ c.past_edge.result)
 past-it c =
     let l = vertex-there c.before.before in
-    let e = edge_at (v c) (vertex_before (length (v c)) (i c)) (i c) in
-    walked-edge (v c) c.requires.0.even (x c) (y c) (i c) c.loop-i.invariant.4 (omega arith)
-    ∙ ap (past e (x c) (y c)) (before_it c) ∙ sym (c.past_edge.ensures.is (x c) (y c) _ _ _ _ (last-seen c) (next-seen c))
+    let e = edge_at (v c.before) (vertex_before (length (v c.before)) (i c.before)) (i c.before) in
+    walked-edge (v c.before) c.requires.0.even (x c.before) (y c.before) (i c.before) c.loop-i.invariant.4 (omega arith)
+    ∙ ap (past e (x c.before) (y c.before)) (before_it c.before) ∙ sym (c.past_edge.ensures.is (x c.before) (y c.before) _ _ _ _ (last-seen c.before) (next-seen c.before))
 
 -- carried stays carried to the end of the stretch
 pub returns-in-Carried : goal.returns-in-Carried
@@ -106,10 +106,10 @@ returns-in-Carried c =
     let l = c.loop-i-test.true in
     let even = c.loop-i.invariant.4 in
     let end_even = stretch.end_even in
-    let k = (i c + 2) / 2 in
+    let k = (i (goal.at.returns-in-Carried c).After-offset_of-next + 2) / 2 in
     let m = c.args.end / 2 - k in
     let q : k + m ≡ c.args.end / 2 = omega arith in
-    sym (ap (walked (v c) (x c) (y c)) (sym q) ∙ walked-carried (v c) (x c) (y c) k m (past-it (goal.at.returns-in-Carried c).After-past_edge ∙ c.in-Carried.is))
+    sym (ap (walked (v (goal.at.returns-in-Carried c).After-offset_of-next) (x (goal.at.returns-in-Carried c).After-offset_of-next) (y (goal.at.returns-in-Carried c).After-offset_of-next)) (sym q) ∙ walked-carried (v (goal.at.returns-in-Carried c).After-offset_of-next) (x (goal.at.returns-in-Carried c).After-offset_of-next) (y (goal.at.returns-in-Carried c).After-offset_of-next) k m (past-it (goal.at.returns-in-Carried c).After-past_edge ∙ c.in-Carried.is))
 
 pub overflow_add-i : goal.overflow_add-i
 overflow_add-i c = let l = vertex-there (goal.at.overflow_add-i c).In-loop-i in omega arith
@@ -126,10 +126,10 @@ loop-i-preserved c =
     let even = c.loop-i.invariant.4 in
     let end_even = c.requires.3.end_even in
     let holds = past-it (goal.at.loop-i-preserved c).After-past_edge ∙ c.in-Summed.is in
-    let fits = fit-below {w = w64} (omega arith) (walked_in (v c) (x c) (y c) ((i c + 2) / 2) _ holds) in
+    let fits = fit-below {w = w64} (omega arith) (walked_in (v (goal.at.loop-i-preserved c).After-offset_of-next) (x (goal.at.loop-i-preserved c).After-offset_of-next) (y (goal.at.loop-i-preserved c).After-offset_of-next) ((i (goal.at.loop-i-preserved c).After-offset_of-next + 2) / 2) _ holds) in
     simp (to_z-of_z, f.x, f.y, fits) (
       holds,
-      rw (before-next (length (v c)) (i c) (i c + 2) refl) (next-seen c),
+      rw (before-next (length (v (goal.at.loop-i-preserved c).After-offset_of-next)) (i (goal.at.loop-i-preserved c).After-offset_of-next) (i (goal.at.loop-i-preserved c).After-offset_of-next + 2) refl) (next-seen (goal.at.loop-i-preserved c).After-offset_of-next),
       omega arith,
       omega arith,
       omega arith,

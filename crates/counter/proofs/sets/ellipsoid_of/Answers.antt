@@ -34,10 +34,10 @@ module _ (after-first-of : After-first_of-e) where
   first = after-first-of.first_of-e.ensures
 
   is-asked : has_bit after-first-of.args.among e ≡ true
-  is-asked = asked after-first-of.args.among _ after-first-of.loop-rest.inv first
+  is-asked = asked after-first-of.args.among _ after-first-of.loop-rest.invariant first
 
   lies : e * n + n ≤ length group
-  lies = event-inside n e after-first-of.args.g (length group) (after-first-of.pre.0.below e first.below is-asked) after-first-of.pre.0.whole
+  lies = event-inside n e after-first-of.args.g (length group) (after-first-of.requires.0.below e first.below is-asked) after-first-of.requires.0.whole
 
   event-is : take (e * n + n - e * n) (drop (e * n) group) ≡ event_at n group e
   event-is = event-part n group e lies
@@ -60,11 +60,11 @@ slice_bounds-in_ellipsoid-end c = let l = lies c in omega arith
 pub in_ellipsoid-member-requires : goal.in_ellipsoid-member-requires
 in_ellipsoid-member-requires c =
     let pre = c.requires in
-    let l = event-long (n c) (group c) (e c) (lies c) in
-    rw (event-is c, l) (pre.0.taken (e c) (first c).below (is-asked c), pre.1, pre.2)
+    let l = event-long (n (goal.at.in_ellipsoid-member-requires c).After-first_of-e) (group (goal.at.in_ellipsoid-member-requires c).After-first_of-e) (e (goal.at.in_ellipsoid-member-requires c).After-first_of-e) (lies (goal.at.in_ellipsoid-member-requires c).After-first_of-e) in
+    rw (event-is (goal.at.in_ellipsoid-member-requires c).After-first_of-e, l) (pre.0.taken (e (goal.at.in_ellipsoid-member-requires c).After-first_of-e) (first (goal.at.in_ellipsoid-member-requires c).After-first_of-e).below (is-asked (goal.at.in_ellipsoid-member-requires c).After-first_of-e), pre.1, pre.2)
 
 pub settle-found-requires : goal.settle-found-requires
-settle-found-requires c = (first c).below
+settle-found-requires c = (first (goal.at.settle-found-requires c).After-first_of-e).below
 
 pub overflow_sub-rest : goal.overflow_sub-rest
 overflow_sub-rest c = c.loop-rest-test.true
@@ -79,7 +79,7 @@ loop-rest-smaller c =
 pub loop-rest-preserved : goal.loop-rest-preserved
 unfolding drawn_at
 loop-rest-preserved c =
-    asking_next c.args.among _ c.loop-rest.invariant (first c) (rw (event-is c) at c.in_ellipsoid-member.ensures)
+    asking_next c.args.among _ c.loop-rest.invariant (first (goal.at.loop-rest-preserved c).After-first_of-e) (rw (event-is (goal.at.loop-rest-preserved c).After-first_of-e) at c.in_ellipsoid-member.ensures)
     c.settle-found.ensures
 
 pub returns : goal.returns

@@ -18,10 +18,10 @@ pub number_in-u-requires : goal.number_in-u-requires
 number_in-u-requires c = let l = low c in (c.requires.1, omega arith)
 
 pub offset_bounds-sets-q : goal.offset_bounds-sets-q
-offset_bounds-sets-q c = let l = low c in omega arith
+offset_bounds-sets-q c = let l = low (goal.at.offset_bounds-sets-q c).Start in omega arith
 
 pub bounds-sets-q : goal.bounds-sets-q
-bounds-sets-q c = let l = low c in omega arith
+bounds-sets-q c = let l = low (goal.at.bounds-sets-q c).Start in omega arith
 
 pub returns-then-u-eq1 : goal.returns-then-u-eq1
 unfolding operand_at in_set outside

@@ -35,14 +35,14 @@ module _ (after-parent-of : After-parent_of) where
 
   parent : after-parent-of.parent_of.result ≡ parent_region (word plan (place + 2))
   parent =
-      let h = four-inside after-parent-of.pre.1 in
+      let h = four-inside after-parent-of.requires.1 in
       after-parent-of.parent_of.ensures ∙ ap parent_region (read_word plan (place + 2) (omega arith) after-parent-of.parent_of-arg-1.given)
 
 pub returns-then-among-eq0 : goal.returns-then-among-eq0
 returns-then-among-eq0 c bits kept =
-    let step = step_at (plan c) (place c) in
-    let body = body_at (plan c) (place c) in
-    step_those c.requires.1 c.args.group.now kept (parent c) c.parent_set.ensures
+    let step = step_at (plan (goal.at.returns-then-among-eq0 c).After-parent_of) (place (goal.at.returns-then-among-eq0 c).After-parent_of) in
+    let body = body_at (plan (goal.at.returns-then-among-eq0 c).After-parent_of) (place (goal.at.returns-then-among-eq0 c).After-parent_of) in
+    step_those c.requires.1 c.args.group.now kept (parent (goal.at.returns-then-among-eq0 c).After-parent_of) c.parent_set.ensures
     {step = step} refl {body = body} refl (those_none c.if-among-eq0.true)
 
 -- the header that the code reads, and the body that it tells
@@ -52,7 +52,7 @@ module _ (after-head-of : After-head_of-head) where
 
   places : (after-head-of.head_of-head.result.start ≤ after-head-of.head_of-head.result.end)
       × (after-head-of.head_of-head.result.end ≤ length after-head-of.args.plan.now)
-  places = body-places after-head-of.args.plan.now after-head-of.args.at header after-head-of.pre.1
+  places = body-places after-head-of.args.plan.now after-head-of.args.at header after-head-of.requires.1
 
 pub offset_bounds-plan-start : goal.offset_bounds-plan-start
 offset_bounds-plan-start c = let b = places c in omega arith
@@ -73,17 +73,17 @@ shape_of-requires c =
     let args = c.args in (
       candidates_and c.parent_set.result p.0,
       p.1.narrow,
-      shaped-step args.plan.now args.at step_is p.1 (body_is args.plan.now args.at (header c)),
+      shaped-step args.plan.now args.at step_is p.1 (body_is args.plan.now args.at (header (goal.at.shape_of-requires c).After-head_of-head)),
       p.2,
     )
 
 pub returns : goal.returns
 returns c bits kept =
-    let parent_is = parent c in
+    let parent_is = parent (goal.at.returns c).After-parent_of in
     let set_is = c.parent_set.ensures in
     let step_is = c.step_at-step.ensures in
     let sound = c.requires.1 in
     let args = c.args in
     let group = args.group.now in
-    step_those sound group kept parent_is set_is step_is (body_is args.plan.now args.at (header c))
+    step_those sound group kept parent_is set_is step_is (body_is args.plan.now args.at (header (goal.at.returns c).After-head_of-head))
     (c.shape_of.ensures bits (agree_among sound group kept parent_is set_is))

@@ -46,7 +46,7 @@ module _ (in-loop : In-loop-e) where
   e = in-loop.loop-e.e
 
   lies : e * n + n ≤ length group
-  lies = event-inside n e in-loop.args.g (length group) in-loop.loop-e-test.taken in-loop.pre.1
+  lies = event-inside n e in-loop.args.g (length group) in-loop.loop-e-test.true in-loop.requires.1
 
   abbrev slice : List ℤ
   slice = take (e * n + n - e * n) (drop (e * n) group)
@@ -58,8 +58,8 @@ module _ (in-loop : In-loop-e) where
   named : in-loop.number_in-d.result < n
   named =
       let q = in-loop.number_in-d.ensures in
-      let h = in-loop.pre.3 in
-      let l = in-loop.pre.4.dimension in-loop.args.i (omega arith) in-loop.pre.2 in
+      let h = in-loop.requires.3 in
+      let l = in-loop.requires.4.dimension in-loop.args.i (omega arith) in-loop.requires.2 in
       omega arith
 
 pub overflow_mul-start : goal.overflow_mul-start
@@ -78,11 +78,11 @@ pub slice_bounds-event-end : goal.slice_bounds-event-end
 slice_bounds-event-end c = let l = lies c in omega arith
 
 pub offset_bounds-event-d : goal.offset_bounds-event-d
-offset_bounds-event-d c = let d = named c in let n = c.pre.5 in omega arith
+offset_bounds-event-d c = let d = named (goal.at.offset_bounds-event-d c).In-loop-e in let n = c.requires.5 in omega arith
 
 pub bounds-event-d : goal.bounds-event-d
-bounds-event-d c = let l = event-long (n c) (group c) (e c) (lies c) in
-    rw (event-is c, l) (named c)
+bounds-event-d c = let l = event-long (n (goal.at.bounds-event-d c).In-loop-e) (group (goal.at.bounds-event-d c).In-loop-e) (e (goal.at.bounds-event-d c).In-loop-e) (lies (goal.at.bounds-event-d c).In-loop-e) in
+    rw (event-is (goal.at.bounds-event-d c).In-loop-e, l) (named (goal.at.bounds-event-d c).In-loop-e)
 
 pub settle-found-requires : goal.settle-found-requires
 settle-found-requires c =
@@ -103,15 +103,15 @@ loop-e-preserved c =
     let i = c.args.i in
     let h = c.loop-e-test.true in
     let p = c.requires in
-    let l = event-long (n c) (group c) loop.e (lies c) in
-    let d = named c in
+    let l = event-long (n (goal.at.loop-e-preserved c).In-loop-e) (group (goal.at.loop-e-preserved c).In-loop-e) loop.e (lies (goal.at.loop-e-preserved c).In-loop-e) in
+    let d = named (goal.at.loop-e-preserved c).In-loop-e in
     let min-is = read_word body (i + 1) (let u = p.3 in omega arith) c.min-1.given in
     let max-is = read_word body (i + 2) p.3 c.span_of-arg-1.given in
-    let value-is = read_word (slice c) c.number_in-d.result (rw (event-is c, l) d) c.in_span-arg-1.given in
+    let value-is = read_word (slice (goal.at.loop-e-preserved c).In-loop-e) c.number_in-d.result (rw (event-is (goal.at.loop-e-preserved c).In-loop-e, l) d) c.in_span-arg-1.given in
     let holds =
     c.in_span-member.ensures
-    ∙ span_triple (n c) (group c) body i p.2 c.number_in-d.ensures loop.e
-    (value-is ∙ ap (λ (l : List ℤ). word l c.number_in-d.result) (event-is c))
+    ∙ span_triple (n (goal.at.loop-e-preserved c).In-loop-e) (group (goal.at.loop-e-preserved c).In-loop-e) body i p.2 c.number_in-d.ensures loop.e
+    (value-is ∙ ap (λ (l : List ℤ). word l c.number_in-d.result) (event-is (goal.at.loop-e-preserved c).In-loop-e))
     min-is
     max-is
     c.Span-of.ensures in

@@ -47,15 +47,15 @@ module _ (after-head-at : After-head_at-head) where
   body-read = body_is plan place after-head-at.head_at-head.ensures
 
   places : (head.start ≤ head.end) × (head.end ≤ length plan)
-  places = body-places plan place after-head-at.head_at-head.ensures after-head-at.pre.1
+  places = body-places plan place after-head-at.head_at-head.ensures after-head-at.requires.1
 
   -- where the kind is told
   module _ {told : Kind} (is : kind ≡ told) where
     step : step_of told head body ≡ step_at plan place
     step = step_is plan place (sym is ∙ kind-read) body-read after-head-at.head_at-head.ensures
 
-    ready : StepShaped (step_of told head body) after-head-at.pre.0 body
-    ready = step-ready plan place (sym is ∙ kind-read) body-read after-head-at.pre.1 head
+    ready : StepShaped (step_of told head body) after-head-at.requires.0 body
+    ready = step-ready plan place (sym is ∙ kind-read) body-read after-head-at.requires.1 head
 
 pub offset_bounds-plan-start : goal.offset_bounds-plan-start
 offset_bounds-plan-start c =
@@ -74,60 +74,60 @@ slice_bounds-body-end c = let b = places c in omega arith
 
 -- ---- a row for each kind
 pub returns-in-Box : goal.returns-in-Box
-returns-in-Box c = step c c.in-Box.is
+returns-in-Box c = step (goal.at.returns-in-Box c).After-head_at-head c.in-Box.is
 
 pub plane_of-requires : goal.plane_of-requires
 plane_of-requires c =
-    let polygon = ready c c.in-Polygon.is in
-    plane-ready c.requires.1 (body c) polygon.0 polygon.1
+    let polygon = ready (goal.at.plane_of-requires c).After-head_at-head c.in-Polygon.is in
+    plane-ready c.requires.1 (body (goal.at.plane_of-requires c).After-head_at-head) polygon.0 polygon.1
 
 pub returns-in-Polygon : goal.returns-in-Polygon
-returns-in-Polygon c = rw c.plane_of.ensures (step c c.in-Polygon.is)
+returns-in-Polygon c = rw c.plane_of.ensures (step (goal.at.returns-in-Polygon c).After-head_at-head c.in-Polygon.is)
 
 pub plane_of-requires-in-Ellipse : goal.plane_of-requires-in-Ellipse
 plane_of-requires-in-Ellipse c =
-    let ellipse = ready c c.in-Ellipse.is in
-    plane-ready c.requires.1 (body c) ellipse.0 (let eight = ellipse.1 in omega arith)
+    let ellipse = ready (goal.at.plane_of-requires-in-Ellipse c).After-head_at-head c.in-Ellipse.is in
+    plane-ready c.requires.1 (body (goal.at.plane_of-requires-in-Ellipse c).After-head_at-head) ellipse.0 (let eight = ellipse.1 in omega arith)
 
 pub oval_of-requires : goal.oval_of-requires
-oval_of-requires c = (ready c c.in-Ellipse.is).1
+oval_of-requires c = (ready (goal.at.oval_of-requires c).After-head_at-head c.in-Ellipse.is).1
 
 pub returns-in-Ellipse : goal.returns-in-Ellipse
 returns-in-Ellipse c =
-    rw (c.plane_of-in-Ellipse.ensures, c.oval_of.ensures) (step c c.in-Ellipse.is)
+    rw (c.plane_of-in-Ellipse.ensures, c.oval_of.ensures) (step (goal.at.returns-in-Ellipse c).After-head_at-head c.in-Ellipse.is)
 
 pub returns-in-And : goal.returns-in-And
-returns-in-And c = step c c.in-And.is
+returns-in-And c = step (goal.at.returns-in-And c).After-head_at-head c.in-And.is
 
 pub returns-in-Or : goal.returns-in-Or
-returns-in-Or c = step c c.in-Or.is
+returns-in-Or c = step (goal.at.returns-in-Or c).After-head_at-head c.in-Or.is
 
 pub returns-in-Not : goal.returns-in-Not
-returns-in-Not c = step c c.in-Not.is
+returns-in-Not c = step (goal.at.returns-in-Not c).After-head_at-head c.in-Not.is
 
 pub plane_of-requires-in-DecimalEllipse : goal.plane_of-requires-in-DecimalEllipse
 plane_of-requires-in-DecimalEllipse c =
-    let ellipse = ready c c.in-DecimalEllipse.is in
-    plane-ready c.requires.1 (body c) ellipse.0 (let eight = ellipse.1 in omega arith)
+    let ellipse = ready (goal.at.plane_of-requires-in-DecimalEllipse c).After-head_at-head c.in-DecimalEllipse.is in
+    plane-ready c.requires.1 (body (goal.at.plane_of-requires-in-DecimalEllipse c).After-head_at-head) ellipse.0 (let eight = ellipse.1 in omega arith)
 
 pub oval_of-requires-in-DecimalEllipse : goal.oval_of-requires-in-DecimalEllipse
-oval_of-requires-in-DecimalEllipse c = (ready c c.in-DecimalEllipse.is).1
+oval_of-requires-in-DecimalEllipse c = (ready (goal.at.oval_of-requires-in-DecimalEllipse c).After-head_at-head c.in-DecimalEllipse.is).1
 
 pub returns-in-DecimalEllipse : goal.returns-in-DecimalEllipse
 returns-in-DecimalEllipse c =
-    rw (c.plane_of-in-DecimalEllipse.ensures, c.oval_of-in-DecimalEllipse.ensures) (step c c.in-DecimalEllipse.is)
+    rw (c.plane_of-in-DecimalEllipse.ensures, c.oval_of-in-DecimalEllipse.ensures) (step (goal.at.returns-in-DecimalEllipse c).After-head_at-head c.in-DecimalEllipse.is)
 
 pub space_of-requires : goal.space_of-requires
 space_of-requires c =
-    let ellipsoid = ready c c.in-Ellipsoid.is in
-    space_ready c.requires.1 (body c) ellipsoid.0 (let thirteen = ellipsoid.1 in omega arith)
+    let ellipsoid = ready (goal.at.space_of-requires c).After-head_at-head c.in-Ellipsoid.is in
+    space_ready c.requires.1 (body (goal.at.space_of-requires c).After-head_at-head) ellipsoid.0 (let thirteen = ellipsoid.1 in omega arith)
 
 pub solid_of-requires : goal.solid_of-requires
-solid_of-requires c = (ready c c.in-Ellipsoid.is).1
+solid_of-requires c = (ready (goal.at.solid_of-requires c).After-head_at-head c.in-Ellipsoid.is).1
 
 pub returns-in-Ellipsoid : goal.returns-in-Ellipsoid
 returns-in-Ellipsoid c =
-    rw (c.space_of.ensures, c.solid_of.ensures) (step c c.in-Ellipsoid.is)
+    rw (c.space_of.ensures, c.solid_of.ensures) (step (goal.at.returns-in-Ellipsoid c).After-head_at-head c.in-Ellipsoid.is)
 
 pub returns-in-Unknown : goal.returns-in-Unknown
-returns-in-Unknown c = step c c.in-Unknown.is
+returns-in-Unknown c = step (goal.at.returns-in-Unknown c).After-head_at-head c.in-Unknown.is

@@ -30,7 +30,7 @@ loop-left-init c =
 pub overflow_add-word : goal.overflow_add-word
 overflow_add-word c =
     let plan = c.args.plan.now in
-    omega (arith, place_inside plan c.loop-left.left c.loop-left.word c.loop-left.invariant.1, plan-few plan c.requires)
+    omega (arith, place_inside plan c.loop-left.false c.loop-left.word c.loop-left.invariant.1, plan-few plan c.requires)
 
 -- ---- a turn of the loop, when the length of its step is read
 
@@ -39,7 +39,7 @@ module _ (turn : After-number_at-m) where
   plan = turn.args.plan.now
 
   abbrev left : ℕ
-  left = turn.loop-left.left
+  left = turn.loop-left.false
 
   abbrev word : ℕ
   word = turn.loop-left.word
@@ -49,14 +49,14 @@ module _ (turn : After-number_at-m) where
   size = 4 + turn.number_at-m.result
 
   ends : steps_end left plan word ≡ length plan
-  ends = turn.loop-left.inv.1
+  ends = turn.loop-left.invariant.1
 
   some : 0 < left
-  some = turn.loop-left-test.taken
+  some = turn.loop-left-test.true
 
   few : length plan ≤ 4096
   few =
-      plan-few plan turn.pre
+      plan-few plan turn.requires
 
   inside : word + size ≤ length plan
   inside = step-inside plan left word ends some turn.number_at-m.ensures
@@ -69,30 +69,30 @@ overflow_add-m c = omega (arith, inside c, few c)
 
 pub put_line_from-at-requires : goal.put_line_from-at-requires
 put_line_from-at-requires c =
-    let size_is = long c in
-    let fits = inside c in
-    let most = few c in
+    let size_is = long (goal.at.put_line_from-at-requires c).After-number_at-m in
+    let fits = inside (goal.at.put_line_from-at-requires c).After-number_at-m in
+    let most = few (goal.at.put_line_from-at-requires c).After-number_at-m in
     rw c.part_at-in-loop-left.ensures (omega arith, omega arith)
 
 pub overflow_add-at : goal.overflow_add-at
 overflow_add-at c =
-    let short = rw (c.part_at-in-loop-left.ensures, long c) at c.put_line_from-at.ensures.upper_bound in
-    omega (arith, inside c, few c, c.loop-left.invariant.0, short)
+    let short = rw (c.part_at-in-loop-left.ensures, long (goal.at.overflow_add-at c).After-number_at-m) at c.put_line_from-at.ensures.upper_bound in
+    omega (arith, inside (goal.at.overflow_add-at c).After-number_at-m, few (goal.at.overflow_add-at c).After-number_at-m, c.loop-left.invariant.0, short)
 
 pub overflow_add-word-in-loop-left : goal.overflow_add-word-in-loop-left
 overflow_add-word-in-loop-left c =
-    omega (arith, inside c, few c)
+    omega (arith, inside (goal.at.overflow_add-word-in-loop-left c).After-number_at-m, few (goal.at.overflow_add-word-in-loop-left c).After-number_at-m)
 
 pub loop-left-preserved : goal.loop-left-preserved
 loop-left-preserved c =
     let m = c.number_at-m.ensures in
-    let short = rw (c.part_at-in-loop-left.ensures, long c) at c.put_line_from-at.ensures.upper_bound in
+    let short = rw (c.part_at-in-loop-left.ensures, long (goal.at.loop-left-preserved c).After-number_at-m) at c.put_line_from-at.ensures.upper_bound in
     let written = rw c.part_at-in-loop-left.ensures at c.put_line_from-at.ensures.writes_from in (
       omega (arith, c.loop-left.invariant.0, short),
-      rw (step-next (plan c) (left c) (word c) (ends c) (some c) m) (next_end (plan c) (left c) (word c) (ends c) (some c)),
+      rw (step-next (plan (goal.at.loop-left-preserved c).After-number_at-m) (left (goal.at.loop-left-preserved c).After-number_at-m) (word (goal.at.loop-left-preserved c).After-number_at-m) (ends (goal.at.loop-left-preserved c).After-number_at-m) (some (goal.at.loop-left-preserved c).After-number_at-m) m) (next_end (plan (goal.at.loop-left-preserved c).After-number_at-m) (left (goal.at.loop-left-preserved c).After-number_at-m) (word (goal.at.loop-left-preserved c).After-number_at-m) (ends (goal.at.loop-left-preserved c).After-number_at-m) (some (goal.at.loop-left-preserved c).After-number_at-m)),
       c.put_line_from-at.auto.0 ∙ c.loop-left.invariant.2,
       λ d p.
-          progress_more _ d _ _ (c.loop-left.invariant.3 d p) (steps-more (plan c) (left c) (word c) (ends c) (some c) m) written,
+          progress_more _ d _ _ (c.loop-left.invariant.3 d p) (steps-more (plan (goal.at.loop-left-preserved c).After-number_at-m) (left (goal.at.loop-left-preserved c).After-number_at-m) (word (goal.at.loop-left-preserved c).After-number_at-m) (ends (goal.at.loop-left-preserved c).After-number_at-m) (some (goal.at.loop-left-preserved c).After-number_at-m) m) written,
     )
 
 pub shape_of-out : goal.shape_of-out
@@ -106,4 +106,4 @@ returns c =
     let first = rw c.part_at.ensures at c.put_line-at.ensures.writes in
     let begun = progress_first (plan_text plan) out (words_line (part plan 0 2) ++ (10 ∷ [])) (left_text c.number_at-left.result plan 2)
     (rw (count-is plan c.number_at-left.ensures) (plan-first plan c.requires)) first in
-    progress_all _ _ (rw (steps-none plan c.loop-left.left c.loop-left.word c.loop-left-test.false) at (c.loop-left.invariant.3 out begun))
+    progress_all _ _ (rw (steps-none plan c.loop-left.false c.loop-left.word c.loop-left-test.false) at (c.loop-left.invariant.3 out begun))
