@@ -22,4 +22,4 @@ pub returns-in-Refused : goal.returns-in-Refused
 returns-in-Refused c =
     rw (refusal-printed c.args.compiled c.args.plan.now c.in-Refused.r c.in-Refused.is
     c.number_of.ensures c.place_of.ensures)
-    c.Put-refused.ensures
+    c.put_refused.ensures

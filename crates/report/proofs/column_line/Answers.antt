@@ -8,7 +8,7 @@ use Rattle.report.proofs.column_line.Goals as goal
 pub returns-then-parted : goal.returns-then-parted
 returns-then-parted c =
     let input = c.args.input.now in
-    column-opened input c.split-parted.result c.split-parted.ensures.0 c.if-parted.true c.Rest-from.ensures c.line_from.ensures
+    column-opened input c.split-parted.result c.split-parted.ensures.0 c.if-parted.true c.rest_from.ensures c.line_from.ensures
 
 pub slice_bounds-right_line-end : goal.slice_bounds-right_line-end
 slice_bounds-right_line-end c =

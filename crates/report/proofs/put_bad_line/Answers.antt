@@ -7,7 +7,7 @@ pub returns-in-Right : goal.returns-in-Right
 returns-in-Right c =
     let a = c.args in
     let t = c.test_columns-tested in
-    rw (right-ragged a.table.now a.columns.now a.line t.result t.ensures c.in-Right.is) c.Put-refused.ensures
+    rw (right-ragged a.table.now a.columns.now a.line t.result t.ensures c.in-Right.is) c.put_refused.ensures
 
 pub returns-in-Wrong : goal.returns-in-Wrong
 returns-in-Wrong c =

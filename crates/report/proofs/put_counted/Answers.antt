@@ -25,7 +25,7 @@ returns-in-TableRefused c =
     let a = c.args in
     rw (refused_prints a.table.now a.columns.now a.plan.now a.values.now c.requires w.new.1.1.0 w.result w.ensures.plan_after
     _ c.in-TableRefused.is refl c.number_of.result c.place_of.result c.number_of.ensures c.place_of.ensures)
-    c.Put-refused.ensures
+    c.put_refused.ensures
 
 pub returns-in-WrongColumns : goal.returns-in-WrongColumns
 returns-in-WrongColumns c =

@@ -17,4 +17,4 @@ returns-in-Refused c =
     let v = c.table_verdict-verdict.ensures in
     rw (table-first args.table.now args.columns.now args.line a v.0 v.1 c.in-Refused.is
     _ _ c.number_of.ensures c.place_of.ensures)
-    c.Put-refused.ensures
+    c.put_refused.ensures

@@ -5,7 +5,7 @@ use Rattle.report.proofs.report.Goals as goal
 
 pub returns-then-input-gt65536 : goal.returns-then-input-gt65536
 returns-then-input-gt65536 c =
-    rw (report_long c.args.input.now c.if-input-gt65536.true) c.Put-refused.ensures
+    rw (report_long c.args.input.now c.if-input-gt65536.true) c.put_refused.ensures
 
 pub returns : goal.returns
 returns c = c.put_report.ensures

@@ -11,4 +11,4 @@ pub returns-in-Refused : goal.returns-in-Refused
 returns-in-Refused c =
     rw (counted-refused _ c.args.counted c.in-Refused.r c.in-Refused.is c.number_of.ensures
     c.place_of.ensures)
-    c.Put-refused.ensures
+    c.put_refused.ensures

@@ -83,7 +83,7 @@ returns-in-Refused c =
     c.ragged_line-line.result (value_lists i)
     c.number_of.result c.place_of.result c.number_of.ensures c.place_of.ensures
     ∙ input-printed i b c.requires.0 t.0 n c.ragged_line-line.ensures in
-    rw (sym printed) c.Put-refused.ensures
+    rw (sym printed) c.put_refused.ensures
 
 pub returns-in-Wrong : goal.returns-in-Wrong
 returns-in-Wrong c =

@@ -5,4 +5,4 @@ use Rattle.sheet.proofs.sheet.Goals as goal
 
 pub returns-then-input-gt65536 : goal.returns-then-input-gt65536
 returns-then-input-gt65536 c =
-    rw (sheet_long c.args.input.now c.if-input-gt65536.true) c.Put-refused.ensures
+    rw (sheet_long c.args.input.now c.if-input-gt65536.true) c.put_refused.ensures

@@ -24,6 +24,9 @@ use Rattle.counter.proofs.groups.count_group.Goals.{After-number_in-steps, In-lo
 
 -- the group as the code takes it: the g events from the j-th on
 module _ (entry : Start) where
+  abbrev entry : Start
+  entry = entry
+
   abbrev plan : List ℤ
   plan = entry.args.plan.now
 
@@ -47,7 +50,7 @@ module _ (entry : Start) where
 
 pub sets_of-sets-requires : goal.sets_of-sets-requires
 sets_of-sets-requires c =
-    (c.requires.0, c.requires.1, candidates (n (goal.at.sets_of-sets-requires c).Start) (group (goal.at.sets_of-sets-requires c).Start) (g (goal.at.sets_of-sets-requires c).Start) c.requires.3 (omega arith) c.Taken-of.ensures)
+    (c.requires.0, c.requires.1, candidates (n (goal.at.sets_of-sets-requires c).Start) (group (goal.at.sets_of-sets-requires c).Start) (g (goal.at.sets_of-sets-requires c).Start) c.requires.3 (omega arith) c.taken_of-taken.ensures)
 
 pub number_in-steps-requires : goal.number_in-steps-requires
 unfolding step_count
@@ -61,6 +64,12 @@ loop-e-init c =
 
 -- the number of steps is read
 module _ (after-number-in : After-number_in-steps) where
+  abbrev after-number-in : After-number_in-steps
+  after-number-in = after-number-in
+
+  abbrev start : Start
+  start = after-number-in.before.before.before.before
+
   steps_are : after-number-in.number_in-steps.result ≡ step_count (plan start)
   unfolding step_count
   steps_are = after-number-in.number_in-steps.ensures
@@ -73,8 +82,14 @@ in_none-unclaimed-requires c = (c.sets_of-sets.ensures.long, steps-few (goal.at.
 
 -- in the loop: there is room for one event more in the tally, and what it is then
 module _ (in-loop : In-loop-e) where
+  abbrev after-number-in : After-number_in-steps
+  after-number-in = in-loop.before.before.before.before
+
+  abbrev entry : Start
+  entry = in-loop.before.before.before.before.before.before.before.before
+
   abbrev taken : ℕ
-  taken = in-loop.Taken-of.result
+  taken = in-loop.taken_of-taken.result
 
   abbrev sets : List ℕ
   sets = in-loop.sets_of-sets.result
@@ -115,13 +130,13 @@ module _ (in-loop : In-loop-e) where
   more-taken : {u : Tally} → has_bit taken e ≡ true → u ≡ with_taken t (in_set sets e) (has_bit unclaimed e)
       → u ≡ tally_of (plan entry) (events entry) (j entry + (e + 1))
   more-taken =
-      one-taken (plan entry) (events entry) in-loop.requires.1 (j entry) (g entry) (group-part entry) in-loop.Taken-of.ensures
+      one-taken (plan entry) (events entry) in-loop.requires.1 (j entry) (g entry) (group-part entry) in-loop.taken_of-taken.ensures
       e low in-loop.loop-e-test.true tally-is in-loop.requires.0 (steps_are after-number-in) (steps-few after-number-in)
       in-loop.sets_of-sets.ensures in-loop.in_none-unclaimed.ensures
 
   more-spoilt : {u : Tally} → has_bit taken e ≡ false → u ≡ with_spoilt t → u ≡ tally_of (plan entry) (events entry) (j entry + (e + 1))
   more-spoilt =
-      one-spoilt (plan entry) (events entry) in-loop.requires.1 (j entry) (g entry) (group-part entry) in-loop.Taken-of.ensures
+      one-spoilt (plan entry) (events entry) in-loop.requires.1 (j entry) (g entry) (group-part entry) in-loop.taken_of-taken.ensures
       e low in-loop.loop-e-test.true tally-is
 
 pub bump-requires : goal.bump-requires

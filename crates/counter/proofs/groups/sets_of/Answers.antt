@@ -37,7 +37,7 @@ module _ (in-loop : In-loop-left) where
   abbrev place : ℕ
   place = in-loop.loop-left.at
 
-  sound : Sound plan n place × AllSound (in-loop.loop-left.false - 1) plan n (next_at plan place)
+  sound : Sound plan n place × AllSound (in-loop.loop-left.left - 1) plan n (next_at plan place)
   sound =
       let loop = in-loop.loop-left in
       now-sound loop.left plan in-loop.args.group.now n 0 place in-loop.loop-left-test.true loop.inv.sound

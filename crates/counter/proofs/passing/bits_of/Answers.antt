@@ -26,7 +26,7 @@ module _ (b : In-loop-left) where
   abbrev place : ℕ
   place = b.loop-left.at
 
-  sound : Sound plan (length event) place × AllSound (b.loop-left.false - 1) plan (length event) (next_at plan place)
+  sound : Sound plan (length event) place × AllSound (b.loop-left.left - 1) plan (length event) (next_at plan place)
   sound =
       let loop = b.loop-left in
       now-sound loop.left plan event (length event) loop.members place b.loop-left-test.true loop.inv.0
@@ -79,6 +79,9 @@ settle-outline-requires c = region-small (goal.at.settle-outline-requires c).Aft
 
 -- after both sets are raised
 module _ (c : After-settle-outline) where
+  abbrev in-loop : In-loop-left
+  in-loop = c.before.before.before.before.before.before
+
   step-inside : place in-loop + 4 ≤ length (plan in-loop)
   step-inside = four-inside (now in-loop)
 

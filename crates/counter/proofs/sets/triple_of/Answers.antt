@@ -114,7 +114,7 @@ loop-e-preserved c =
     (value-is ∙ ap (λ (l : List ℤ). word l c.number_in-d.result) (event-is (goal.at.loop-e-preserved c).In-loop-e))
     min-is
     max-is
-    c.Span-of.ensures in
+    c.span_of-span.ensures in
     (search rules, first_next _ loop.e (omega arith) holds loop.invariant.1 c.settle-found.ensures)
 
 pub returns : goal.returns

@@ -25,7 +25,7 @@ overflow_add-find c = omega (arith, found_inside c.args.part.now 0 10 c.find.ens
 
 pub returns-then-headed : goal.returns-then-headed
 returns-then-headed c =
-    c.Rest-from.ensures ∙ behind-first c.args.part.now c.args.headed c.if-headed.true c.find.ensures
+    c.rest_from.ensures ∙ behind-first c.args.part.now c.args.headed c.if-headed.true c.find.ensures
 
 pub returns-else-headed : goal.returns-else-headed
 returns-else-headed c =

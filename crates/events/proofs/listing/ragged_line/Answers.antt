@@ -22,7 +22,7 @@ overflow_add-result c =
       c.split-s.ensures.1,
       c.split-s.ensures.2,
       start_is s c.split-s.ensures.0,
-      ap length c.Rest-from.ensures,
+      ap length c.rest_from.ensures,
       length-drop c.split-s.result.start s,
       c.bad_line-bad.ensures.1,
     )
@@ -30,9 +30,9 @@ overflow_add-result c =
 pub returns-then-bad-gt0 : goal.returns-then-bad-gt0
 returns-then-bad-gt0 c =
     line-behind _ _ _ _ c.split-s.ensures.0 (not-false _ c.if-not-found.false-raw) (not-false _ c.if-not-ended.false-raw)
-    c.Rest-from.ensures c.bad_line-bad.ensures.0 c.if-bad-gt0.true
+    c.rest_from.ensures c.bad_line-bad.ensures.0 c.if-bad-gt0.true
 
 pub returns : goal.returns
 returns c =
     line-nowhere _ _ _ _ c.split-s.ensures.0 (not-false _ c.if-not-found.false-raw) (not-false _ c.if-not-ended.false-raw)
-    c.Rest-from.ensures c.bad_line-bad.ensures.0 c.if-bad-gt0.false
+    c.rest_from.ensures c.bad_line-bad.ensures.0 c.if-bad-gt0.false

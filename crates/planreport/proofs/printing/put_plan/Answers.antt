@@ -30,7 +30,7 @@ loop-left-init c =
 pub overflow_add-word : goal.overflow_add-word
 overflow_add-word c =
     let plan = c.args.plan.now in
-    omega (arith, place_inside plan c.loop-left.false c.loop-left.word c.loop-left.invariant.1, plan-few plan c.requires)
+    omega (arith, place_inside plan c.loop-left.left c.loop-left.word c.loop-left.invariant.1, plan-few plan c.requires)
 
 -- ---- a turn of the loop, when the length of its step is read
 
@@ -39,7 +39,7 @@ module _ (turn : After-number_at-m) where
   plan = turn.args.plan.now
 
   abbrev left : ℕ
-  left = turn.loop-left.false
+  left = turn.loop-left.left
 
   abbrev word : ℕ
   word = turn.loop-left.word
@@ -106,4 +106,4 @@ returns c =
     let first = rw c.part_at.ensures at c.put_line-at.ensures.writes in
     let begun = progress_first (plan_text plan) out (words_line (part plan 0 2) ++ (10 ∷ [])) (left_text c.number_at-left.result plan 2)
     (rw (count-is plan c.number_at-left.ensures) (plan-first plan c.requires)) first in
-    progress_all _ _ (rw (steps-none plan c.loop-left.false c.loop-left.word c.loop-left-test.false) at (c.loop-left.invariant.3 out begun))
+    progress_all _ _ (rw (steps-none plan c.loop-left.left c.loop-left.word c.loop-left-test.false) at (c.loop-left.invariant.3 out begun))

@@ -6,7 +6,7 @@ use Rattle.sheet.proofs.columns.test_lists.Goals as goal
 pub returns-then-parted : goal.returns-then-parted
 returns-then-parted c =
     let input = c.args.input.now in
-    rw (columns-split _ input c.split-parted.ensures.0 c.if-parted.true c.Rest-from.ensures) c.test_part.ensures
+    rw (columns-split _ input c.split-parted.ensures.0 c.if-parted.true c.rest_from.ensures) c.test_part.ensures
 
 pub returns : goal.returns
 returns c =

@@ -37,20 +37,20 @@ overflow_add-begin c =
 
 pub slice_bounds-count_list-end : goal.slice_bounds-count_list-end
 slice_bounds-count_list-end c =
-    sym (length-take-le c.split-parted.result.table c.Rest-from.result.now c.split-parted.ensures.1)
+    sym (length-take-le c.split-parted.result.table c.rest_from-part.result.now c.split-parted.ensures.1)
 
 pub count_list-tally-requires : goal.count_list-tally-requires
 count_list-tally-requires c =
     let a = c.args in
     let inv = c.loop-at.invariant in
-    let part = part-is-table c.Rest-from.result.now c.split-parted.ensures.0 in
-    let behind = c.Rest-from.ensures ∙ ap (λ (k : ℕ). drop (k + 1) a.input.now) c.find-begin.ensures in
+    let part = part-is-table c.rest_from-part.result.now c.split-parted.ensures.0 in
+    let behind = c.rest_from-part.ensures ∙ ap (λ (k : ℕ). drop (k + 1) a.input.now) c.find-begin.ensures in
     let is = part.0 ∙ ap table_part behind in (
       omega (
         arith,
-        length-take-le c.split-parted.result.table c.Rest-from.result.now c.split-parted.ensures.1,
+        length-take-le c.split-parted.result.table c.rest_from-part.result.now c.split-parted.ensures.1,
         c.split-parted.ensures.1,
-        ap length c.Rest-from.ensures,
+        ap length c.rest_from-part.ensures,
         length-drop (c.find-begin.result + 1) a.input.now,
         c.requires.0,
       ),
@@ -91,7 +91,7 @@ overflow_add-at-in-loop-at c =
       near,
       c.find-begin.ensures,
       c.split-parted.ensures.1,
-      ap length c.Rest-from.ensures,
+      ap length c.rest_from-part.ensures,
       length-drop (c.find-begin.result + 1) a.input.now,
       c.requires.0,
     ) in
@@ -106,8 +106,8 @@ pub loop-at-preserved : goal.loop-at-preserved
 loop-at-preserved c =
     let a = c.args in
     let inv = c.loop-at.invariant.0 in
-    let part = part-is-table c.Rest-from.result.now c.split-parted.ensures.0 in
-    let behind = c.Rest-from.ensures ∙ ap (λ (k : ℕ). drop (k + 1) a.input.now) c.find-begin.ensures in
+    let part = part-is-table c.rest_from-part.result.now c.split-parted.ensures.0 in
+    let behind = c.rest_from-part.ensures ∙ ap (λ (k : ℕ). drop (k + 1) a.input.now) c.find-begin.ensures in
     let is = part.0 ∙ ap table_part behind in
     let tally-is = c.count_list-tally.ensures.0 ∙ ap (λ (t : List ℕ). (count_of a.plan.now (values t)).tally) is in
     let begin-is = ap (λ (k : ℕ). k + 1) c.find-begin.ensures in

@@ -28,7 +28,7 @@ overflow_add-a c = let h = inside (goal.at.overflow_add-a c).After-find-e in sea
 pub loop-left-preserved : goal.loop-left-preserved
 loop-left-preserved c =
     let h = inside (goal.at.loop-left-preserved c).After-find-e in
-    (omega arith, c.loop-left.invariant.1 ∙ field_next _ c.loop-left.a _ c.loop-left.false c.find-e.ensures c.loop-left-test.true (omega arith))
+    (omega arith, c.loop-left.invariant.1 ∙ field_next _ c.loop-left.a _ c.loop-left.left c.find-e.ensures c.loop-left-test.true (omega arith))
 
 pub slice_bounds-result-count-2 : goal.slice_bounds-result-count-2
 slice_bounds-result-count-2 c =
@@ -46,4 +46,4 @@ slice_bounds-result-end-2 c = let i = inside-2 c in search rules
 
 pub returns : goal.returns
 returns c =
-    field_here _ c.loop-left.a _ c.loop-left.false c.find-e-2.ensures c.loop-left-test.false c.loop-left.invariant.0 ∙ sym c.loop-left.invariant.1
+    field_here _ c.loop-left.a _ c.loop-left.left c.find-e-2.ensures c.loop-left-test.false c.loop-left.invariant.0 ∙ sym c.loop-left.invariant.1
