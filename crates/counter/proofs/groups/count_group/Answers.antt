@@ -24,9 +24,6 @@ use Rattle.counter.proofs.groups.count_group.Goals.{After-number_in-steps, In-lo
 
 -- the group as the code takes it: the g events from the j-th on
 module _ (entry : Start) where
-  abbrev entry : Start
-  entry = entry
-
   abbrev plan : List ℤ
   plan = entry.args.plan.now
 
@@ -64,9 +61,6 @@ loop-e-init c =
 
 -- the number of steps is read
 module _ (after-number-in : After-number_in-steps) where
-  abbrev after-number-in : After-number_in-steps
-  after-number-in = after-number-in
-
   abbrev start : Start
   start = after-number-in.before.before.before.before
 

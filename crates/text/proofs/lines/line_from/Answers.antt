@@ -24,9 +24,9 @@ slice_bounds-result-start c =
     let i = inside c in
     search rules
 
-pub slice_bounds-result-end : goal.slice_bounds-result-end
-slice_bounds-result-end c = let i = inside c in search rules
-
 pub returns : goal.returns
 unfolding line_from
 returns c = rw c.find-e.ensures
+
+pub slice_bounds-result-end-2 : goal.slice_bounds-result-end-2
+slice_bounds-result-end-2 c = let i = inside (goal.at.slice_bounds-result-end-2 c).After-find-e in search rules
