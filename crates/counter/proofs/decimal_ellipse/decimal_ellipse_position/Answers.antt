@@ -115,11 +115,12 @@ overflow_sub-p-2 c = search (asks (goal.at.overflow_sub-p-2 c).Start)
 pub returns : goal.returns
 unfolding decimal_ellipse_position
 returns c =
+    let entry = (goal.at.returns c).Start in
     let a = c.args in
     let l =
     plus-is c.plus-left.ensures c.times.ensures c.times-2.ensures
-    ∙ sum-gives (vs (goal.at.returns c).Start) (known (goal.at.returns c).Start) L tt
-    ∙ solve (values w64 (vs (goal.at.returns c).Start)) (flat L) F tt in
-    let r = c.times-right.ensures ∙ sum-gives (vs (goal.at.returns c).Start) (known (goal.at.returns c).Start) R tt in
+    ∙ sum-gives (vs entry) (known entry) L tt
+    ∙ solve (values w64 (vs entry)) (flat L) F tt in
+    let r = c.times-right.ensures ∙ sum-gives (vs entry) (known entry) R tt in
     c.position_by.ensures ∙ ap position_by (c.compare.ensures ∙ ap₂ order_of l r)
     ∙ order_sides (decimal_left a.m1 a.m2 a.c11 a.c12 a.c22 a.x a.y) (decimal_right a.c11 a.c12 a.c22 a.d2)

@@ -118,20 +118,23 @@ right c = let a = c.args in a.d2 *ℤ determinant a.c11 a.c12 a.c22
 pub returns-then-form-limit : goal.returns-then-form-limit
 unfolding ellipse_position
 returns-then-form-limit c =
-    let l = zgives w64 (vs (goal.at.returns-then-form-limit c).Start) (known (goal.at.returns-then-form-limit c).Start) L tt in
-    let r = zgives w64 (vs (goal.at.returns-then-form-limit c).Start) (known (goal.at.returns-then-form-limit c).Start) R tt in
-    sides_less (left (goal.at.returns-then-form-limit c).Start) (right (goal.at.returns-then-form-limit c).Start) (sym (ap₂ lt_z l r) ∙ c.if-form-limit.true)
+    let entry = (goal.at.returns-then-form-limit c).Start in
+    let l = zgives w64 (vs entry) (known entry) L tt in
+    let r = zgives w64 (vs entry) (known entry) R tt in
+    sides_less (left entry) (right entry) (sym (ap₂ lt_z l r) ∙ c.if-form-limit.true)
 
 pub returns-then-limit-form : goal.returns-then-limit-form
 unfolding ellipse_position
 returns-then-limit-form c =
-    let l = zgives w64 (vs (goal.at.returns-then-limit-form c).Start) (known (goal.at.returns-then-limit-form c).Start) L tt in
-    let r = zgives w64 (vs (goal.at.returns-then-limit-form c).Start) (known (goal.at.returns-then-limit-form c).Start) R tt in
-    sides_more (left (goal.at.returns-then-limit-form c).Start) (right (goal.at.returns-then-limit-form c).Start) (sym (ap₂ lt_z r l) ∙ c.if-limit-form.true)
+    let entry = (goal.at.returns-then-limit-form c).Start in
+    let l = zgives w64 (vs entry) (known entry) L tt in
+    let r = zgives w64 (vs entry) (known entry) R tt in
+    sides_more (left entry) (right entry) (sym (ap₂ lt_z r l) ∙ c.if-limit-form.true)
 
 pub returns : goal.returns
 unfolding ellipse_position
 returns c =
-    let l = zgives w64 (vs (goal.at.returns c).Start) (known (goal.at.returns c).Start) L tt in
-    let r = zgives w64 (vs (goal.at.returns c).Start) (known (goal.at.returns c).Start) R tt in
-    sides_equal (left (goal.at.returns c).Start) (right (goal.at.returns c).Start) (sym (ap₂ lt_z l r) ∙ c.if-form-limit.false) (sym (ap₂ lt_z r l) ∙ c.if-limit-form.false)
+    let entry = (goal.at.returns c).Start in
+    let l = zgives w64 (vs entry) (known entry) L tt in
+    let r = zgives w64 (vs entry) (known entry) R tt in
+    sides_equal (left entry) (right entry) (sym (ap₂ lt_z l r) ∙ c.if-form-limit.false) (sym (ap₂ lt_z r l) ∙ c.if-limit-form.false)

@@ -250,6 +250,7 @@ overflow_mul-dy-3 c = search (asks (goal.at.overflow_mul-dy-3 c).Start w23 tt)
 pub returns : goal.returns
 unfolding ellipsoid_position
 returns c =
+    let entry = (goal.at.returns c).Start in
     let a = c.args in
     let matrix = symmetric a.c11 a.c12 a.c13 a.c22 a.c23 a.c33 in
     let first_two = plus-is c.plus.ensures c.times-w11.ensures c.times-w22.ensures in
@@ -258,7 +259,7 @@ returns c =
     let others = plus-is c.plus-4.ensures next-two c.times-w23.ensures in
     let sum =
     plus-is c.plus-sum.ensures squares others
-    ∙ sum-gives (vs (goal.at.returns c).Start) (known (goal.at.returns c).Start) all tt
+    ∙ sum-gives (vs entry) (known entry) all tt
     ∙ gathered-is matrix (a.x -ℤ a.m1) (a.y -ℤ a.m2) (a.z -ℤ a.m3) a.d2 in
     let left = ellipsoid_left a.m1 a.m2 a.m3 matrix a.x a.y a.z in
     let right = ellipsoid_right matrix a.d2 in

@@ -62,9 +62,10 @@ overflow_add-counts c =
 
 pub loop-r-preserved : goal.loop-r-preserved
 loop-r-preserved c =
-    let written = ap (λ (l : List ℕ). set l (r (goal.at.loop-r-preserved c).In-loop-r) (raised (goal.at.loop-r-preserved c).In-loop-r)) (counts_are (goal.at.loop-r-preserved c).In-loop-r) in
-    let test = in_set (sets (goal.at.loop-r-preserved c).In-loop-r) (e (goal.at.loop-r-preserved c).In-loop-r) in
-    (search rules, written ∙ bump_write (old (goal.at.loop-r-preserved c).In-loop-r) test (r (goal.at.loop-r-preserved c).In-loop-r) (low (goal.at.loop-r-preserved c).In-loop-r) c.requires.0 (raised_is (goal.at.loop-r-preserved c).In-loop-r))
+    let in-loop-r = (goal.at.loop-r-preserved c).In-loop-r in
+    let written = ap (λ (l : List ℕ). set l (r in-loop-r) (raised in-loop-r)) (counts_are in-loop-r) in
+    let test = in_set (sets in-loop-r) (e in-loop-r) in
+    (search rules, written ∙ bump_write (old in-loop-r) test (r in-loop-r) (low in-loop-r) c.requires.0 (raised_is in-loop-r))
 
 pub returns : goal.returns
 returns c =

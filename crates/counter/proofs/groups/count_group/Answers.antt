@@ -1,7 +1,6 @@
 -- `count_group`: the tally is that of the events before the e-th of the group.
 use mathlib.Core.Path.{◌≡◌, sym, ◌∙◌}
 use mathlib.Core.Bool.{true, false}
-use mathlib.Core.Logic.{⊎_elim}
 use mathlib.Core.List.{List}
 use Prim.Native.Nat.{ℕ, ◌≤◌, ◌<◌, ◌-◌, ◌*◌, ◌/◌, ◌+◌, ◌^◌}
 use native.Mathlib.Omega.{arith}
@@ -20,7 +19,7 @@ use Rattle.counter.proofs.TallyLaws.{with_taken, with_spoilt, taken-small, spoil
 use Rattle.counter.proofs.GroupLaws.{group-is, candidates, one-taken, one-spoilt, sets-low}
 use borrow.Author.Rules.{rules}
 use Rattle.counter.proofs.groups.count_group.Goals as goal
-use Rattle.counter.proofs.groups.count_group.Goals.{After-number_in-steps, In-loop-e, Start}
+use Rattle.counter.proofs.groups.count_group.Goals.{then-bit_in, else-bit_in, After-number_in-steps, In-loop-e, Start}
 
 -- the group as the code takes it: the g events from the j-th on
 module _ (entry : Start) where
@@ -47,7 +46,8 @@ module _ (entry : Start) where
 
 pub sets_of-sets-requires : goal.sets_of-sets-requires
 sets_of-sets-requires c =
-    (c.requires.0, c.requires.1, candidates (n (goal.at.sets_of-sets-requires c).Start) (group (goal.at.sets_of-sets-requires c).Start) (g (goal.at.sets_of-sets-requires c).Start) c.requires.3 (omega arith) c.taken_of-taken.ensures)
+    let entry = (goal.at.sets_of-sets-requires c).Start in
+    (c.requires.0, c.requires.1, candidates (n entry) (group entry) (g entry) c.requires.3 (omega arith) c.taken_of-taken.ensures)
 
 pub number_in-steps-requires : goal.number_in-steps-requires
 unfolding step_count
@@ -135,14 +135,17 @@ module _ (in-loop : In-loop-e) where
 
 pub bump-requires : goal.bump-requires
 bump-requires c =
-    let m = steps_are (goal.at.bump-requires c).After-number_in-steps in
+    let after-number_in-steps = (goal.at.bump-requires c).After-number_in-steps in
+    let in-loop-e = (goal.at.bump-requires c).In-loop-e in
+    let entry = (goal.at.bump-requires c).Start in
+    let m = steps_are after-number_in-steps in
     let sorted = c.sets_of-sets.ensures in (
-      long (goal.at.bump-requires c).In-loop-e,
+      long in-loop-e,
       sorted.long,
-      room (goal.at.bump-requires c).In-loop-e,
-      steps-few (goal.at.bump-requires c).After-number_in-steps,
-      low (goal.at.bump-requires c).In-loop-e,
-      λ r l k. sets-low (plan (goal.at.bump-requires c).Start) (n (goal.at.bump-requires c).Start) (group (goal.at.bump-requires c).Start) c.requires.0 sorted (e (goal.at.bump-requires c).In-loop-e) (low (goal.at.bump-requires c).In-loop-e) r (omega arith) k,
+      room in-loop-e,
+      steps-few after-number_in-steps,
+      low in-loop-e,
+      λ r l k. sets-low (plan entry) (n entry) (group entry) c.requires.0 sorted (e in-loop-e) (low in-loop-e) r (omega arith) k,
     )
 
 pub overflow_add-t : goal.overflow_add-t
@@ -163,13 +166,14 @@ overflow_add-t-else-bit_in c =
 pub loop-e-preserved : goal.loop-e-preserved
 unfolding has_bit
 loop-e-preserved c =
+    let in-loop-e = (goal.at.loop-e-preserved c).In-loop-e in
     let bit = sym c.bit_in.ensures in
-    let raised = plus-odd (unclaimed (goal.at.loop-e-preserved c).In-loop-e / 2 ^ e (goal.at.loop-e-preserved c).In-loop-e) (t (goal.at.loop-e-preserved c).In-loop-e).unclaimed in (
+    let raised = plus-odd (unclaimed in-loop-e / 2 ^ e in-loop-e) (t in-loop-e).unclaimed in (
       search rules,
-      ⊎_elim
-          (λ bumped. more-taken (goal.at.loop-e-preserved c).In-loop-e (bit ∙ bumped.0.taken) (bumped.4 ∙ rw (← bumped.3.ensures, raised)))
-          (λ spoilt. more-spoilt (goal.at.loop-e-preserved c).In-loop-e (bit ∙ spoilt.0.left) spoilt.1)
-          c.if-bit_in.branch,
+      elim c.if-bit_in.branch [
+        then-bit_in bumped ↦ more-taken in-loop-e (bit ∙ bumped.if-bit_in.true) (bumped.t-is ∙ rw (← bumped.bump.ensures, raised))
+      | else-bit_in spoilt ↦ more-spoilt in-loop-e (bit ∙ spoilt.if-bit_in.false) spoilt.t-is
+      ],
     )
 
 pub returns : goal.returns

@@ -40,7 +40,7 @@ module _ (in-loop : In-loop-left) where
   sound : Sound plan n place × AllSound (in-loop.loop-left.left - 1) plan n (next_at plan place)
   sound =
       let loop = in-loop.loop-left in
-      now-sound loop.left plan in-loop.args.group.now n 0 place in-loop.loop-left-test.true loop.inv.sound
+      now-sound loop.left plan in-loop.args.group.now n 0 place in-loop.loop-left-test.true loop.invariant.sound
 
   now : Sound plan n place
   now = sound.0
@@ -58,8 +58,9 @@ overflow_add-at c =
 pub number_in-r-requires : goal.number_in-r-requires
 unfolding region_at
 number_in-r-requires c =
-    let h = four-inside (now (goal.at.number_in-r-requires c).In-loop-left) in
-    let l = region-below (now (goal.at.number_in-r-requires c).In-loop-left) in
+    let in-loop-left = (goal.at.number_in-r-requires c).In-loop-left in
+    let h = four-inside (now in-loop-left) in
+    let l = region-below (now in-loop-left) in
     (omega arith, omega arith)
 
 -- the region of the step is one of the 64
@@ -97,27 +98,30 @@ overflow_add-at-in-loop-left-2 c =
 pub number_in-requires : goal.number_in-requires
 unfolding length_at
 number_in-requires c =
-    let h = four-inside (now (goal.at.number_in-requires c).In-loop-left) in
-    let l = length-below (now (goal.at.number_in-requires c).In-loop-left) in
+    let in-loop-left = (goal.at.number_in-requires c).In-loop-left in
+    let h = four-inside (now in-loop-left) in
+    let l = length-below (now in-loop-left) in
     (omega arith, omega arith)
 
 pub overflow_add-at-in-loop-left-3 : goal.overflow_add-at-in-loop-left-3
 unfolding length_at
 overflow_add-at-in-loop-left-3 c =
-    let h = four-inside (now (goal.at.overflow_add-at-in-loop-left-3 c).In-loop-left) in
-    let l = length-below (now (goal.at.overflow_add-at-in-loop-left-3 c).In-loop-left) in
+    let in-loop-left = (goal.at.overflow_add-at-in-loop-left-3 c).In-loop-left in
+    let h = four-inside (now in-loop-left) in
+    let l = length-below (now in-loop-left) in
     let g = c.well_formed in
     omega arith
 
 pub loop-left-preserved : goal.loop-left-preserved
 unfolding next_at length_at region_at
 loop-left-preserved c =
+    let in-loop-left = (goal.at.loop-left-preserved c).In-loop-left in
     let inv = c.loop-left.invariant in
     let args = c.args in
     let found = c.step_of-found.ensures inv.bits inv.matched in
     rw (c.number_in.ensures, c.number_in-r.ensures)
-    (settling_next (plan (goal.at.loop-left-preserved c).In-loop-left) (n (goal.at.loop-left-preserved c).In-loop-left) args.group.now args.taken inv c.loop-left-test.true (sound (goal.at.loop-left-preserved c).In-loop-left).1
-    (region-below (now (goal.at.loop-left-preserved c).In-loop-left)) found)
+    (settling_next (plan in-loop-left) (n in-loop-left) args.group.now args.taken inv c.loop-left-test.true (sound in-loop-left).1
+    (region-below (now in-loop-left)) found)
 
 pub returns : goal.returns
 returns c =

@@ -29,7 +29,7 @@ module _ (b : In-loop-left) where
   sound : Sound plan (length event) place × AllSound (b.loop-left.left - 1) plan (length event) (next_at plan place)
   sound =
       let loop = b.loop-left in
-      now-sound loop.left plan event (length event) loop.members place b.loop-left-test.true loop.inv.0
+      now-sound loop.left plan event (length event) loop.members place b.loop-left-test.true loop.invariant.0
 
   now : Sound plan (length event) place
   now = sound.0
@@ -59,8 +59,9 @@ overflow_add-at c =
 pub number_in-region-requires : goal.number_in-region-requires
 unfolding region_at
 number_in-region-requires c =
-    let h = four-inside (now (goal.at.number_in-region-requires c).In-loop-left) in
-    let l = region-below (now (goal.at.number_in-region-requires c).In-loop-left) in
+    let in-loop-left = (goal.at.number_in-region-requires c).In-loop-left in
+    let h = four-inside (now in-loop-left) in
+    let l = region-below (now in-loop-left) in
     (omega arith, omega arith)
 
 -- the region that is read is below 64
@@ -107,28 +108,28 @@ number_in-requires c =
 pub overflow_add-at-in-loop-left-3 : goal.overflow_add-at-in-loop-left-3
 unfolding length_at
 overflow_add-at-in-loop-left-3 c =
-    let b = in-loop c in
     let e = c.number_in.ensures in
-    let g = b.before.before.before.good in
+    let g = c.well_formed in
     let h = step-inside (goal.at.overflow_add-at-in-loop-left-3 c).After-settle-outline in
-    let l = length-below (now b) in
+    let l = length-below (now (goal.at.overflow_add-at-in-loop-left-3 c).In-loop-left) in
     omega arith
 
 pub loop-left-preserved : goal.loop-left-preserved
 unfolding next_at length_at
 loop-left-preserved c =
+    let in-loop-left = (goal.at.loop-left-preserved c).In-loop-left in
     let loop = c.loop-left in
     let tells = c.step_position-position.ensures in
     let member = c.not_outside-member.ensures ∙ tells.0 in
     let on = c.is_on_outline-on.ensures ∙ tells.1 in
     let region = c.number_in-region.ensures in
     let members = c.settle-members.ensures in (
-      rw c.number_in.ensures (sound (goal.at.loop-left-preserved c).In-loop-left).1,
+      rw c.number_in.ensures (sound in-loop-left).1,
       loop.invariant.1
-          ∙ settled-more loop.left (plan (goal.at.loop-left-preserved c).In-loop-left) (event (goal.at.loop-left-preserved c).In-loop-left) (length (event (goal.at.loop-left-preserved c).In-loop-left)) loop.members (place (goal.at.loop-left-preserved c).In-loop-left) c.loop-left-test.true
+          ∙ settled-more loop.left (plan in-loop-left) (event in-loop-left) (length (event in-loop-left)) loop.members (place in-loop-left) c.loop-left-test.true
           member region members c.number_in.ensures,
       loop.invariant.2
-          ∙ outline-more loop.left (plan (goal.at.loop-left-preserved c).In-loop-left) (event (goal.at.loop-left-preserved c).In-loop-left) (length (event (goal.at.loop-left-preserved c).In-loop-left)) loop.members (place (goal.at.loop-left-preserved c).In-loop-left) c.loop-left-test.true loop.outline
+          ∙ outline-more loop.left (plan in-loop-left) (event in-loop-left) (length (event in-loop-left)) loop.members (place in-loop-left) c.loop-left-test.true loop.outline
           member on region members c.settle-outline.ensures c.number_in.ensures,
     )
 

@@ -71,7 +71,7 @@ module _ (after-least : After-least-g) where
   fits =
       let d = div-le_self (length after-least.args.events.now) n in
       let i = inside in
-      let long = after-least.good in
+      let long = after-least.well_formed in
       omega arith
 
 pub count_group-t-requires : goal.count_group-t-requires

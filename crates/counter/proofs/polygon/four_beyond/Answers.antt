@@ -18,11 +18,13 @@ height entry k = scale_fits (get_or entry.args.v.now k (pos 0)) (entry.requires.
 pub returns-then-above : goal.returns-then-above
 unfolding four_beyond beyond
 returns-then-above c =
+    let entry = (goal.at.returns-then-above c).Start in
     let i = c.args.i in
-    simp (to_z-of_z, c.ranges.y, height (goal.at.returns-then-above c).Start (i + 1), height (goal.at.returns-then-above c).Start (i + 3), height (goal.at.returns-then-above c).Start (i + 5), height (goal.at.returns-then-above c).Start (i + 7)) (rw c.if-above.true)
+    simp (to_z-of_z, c.ranges.y, height entry (i + 1), height entry (i + 3), height entry (i + 5), height entry (i + 7)) (rw c.if-above.true)
 
 pub returns-else-above : goal.returns-else-above
 unfolding four_beyond beyond
 returns-else-above c =
+    let entry = (goal.at.returns-else-above c).Start in
     let i = c.args.i in
-    simp (to_z-of_z, c.ranges.y, height (goal.at.returns-else-above c).Start (i + 1), height (goal.at.returns-else-above c).Start (i + 3), height (goal.at.returns-else-above c).Start (i + 5), height (goal.at.returns-else-above c).Start (i + 7)) (rw c.if-above.false)
+    simp (to_z-of_z, c.ranges.y, height entry (i + 1), height entry (i + 3), height entry (i + 5), height entry (i + 7)) (rw c.if-above.false)

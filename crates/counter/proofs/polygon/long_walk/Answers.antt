@@ -8,7 +8,7 @@ use lib.IntN.{ℤ}
 use lib.ListN.{length}
 use mir.Syntax.{w32, w64}
 use mir.Val.{Fits, to_z, of_z}
-use mir.Facts.{to_z-of_z, Fits-lit, Fits-of_z}
+use mir.Facts.{to_z-of_z, sfits_lit}
 use Rattle.integers.proofs.Bounds.{fit-below}
 use Rattle.counter.specs.Walk.{walked}
 use Rattle.counter.specs.Inner.Walks.{Apart, Stretch}
@@ -16,34 +16,21 @@ use Rattle.counter.specs.declared.polygon.Walked.TheVariants.{Summed}
 use Rattle.counter.proofs.WalkLaws.{walked_start, walked_in, walked-carried}
 use borrow.Author.Rules.{rules}
 use Rattle.counter.proofs.polygon.long_walk.Goals as goal
-use Rattle.counter.proofs.polygon.long_walk.Goals.{After-run_end-start, After-walk, At-loop-i}
+use Rattle.counter.proofs.polygon.long_walk.Goals.{After-run_end-start, After-walk, In-loop-i}
 
 -- ---- at the loop's head
-abbrev At : Type 0
-At = At-loop-i
-
-module _ (b : At) where
-  abbrev vs : List ℤ
-  vs = b.before.args.v.now
-
-  abbrev px : ℤ
-  px = b.before.args.x
-
-  abbrev py : ℤ
-  py = b.before.args.y
-
-  holds : walked vs px py (b.loop.i / 2) ≡ Summed (to_z w64 b.loop.sum)
-  holds = simp (to_z-of_z, b.before.fits.x, b.before.fits.y) at b.loop.inv.0
+holds : (c : In-loop-i) → walked c.args.v.now c.args.x c.args.y (c.loop-i.i / 2) ≡ Summed (to_z w64 c.loop-i.sum-bits)
+holds c = simp (to_z-of_z, c.ranges.x, c.ranges.y) at c.loop-i.invariant.0
 
 pub loop-i-init : goal.loop-i-init
-loop-i-init c = (walked_start c.args.v.now (to_z w32 (of_z w32 c.args.x)) (to_z w32 (of_z w32 c.args.y)), refl, omega arith, Fits-lit tt)
+loop-i-init c = (walked_start c.args.v.now (to_z w32 (of_z w32 c.args.x)) (to_z w32 (of_z w32 c.args.y)), refl, omega arith, sfits_lit tt)
 
 pub run_end-start-requires : goal.run_end-start-requires
 run_end-start-requires c =
     (c.requires.0, c.loop-i.invariant.1, c.loop-i-test.true)
 
 -- the edges that are passed by
-passed-by : (c : After-run_end-start) → (Apart (vs c) (py c) c.loop-i.i c.run_end-start.result)
+passed-by : (c : After-run_end-start) → (Apart c.args.v.now c.args.y c.loop-i.i c.run_end-start.result)
 passed-by c = simp (to_z-of_z, c.ranges.y) at c.run_end-start.ensures
 
 pub stretch_end-end-requires : goal.stretch_end-end-requires
@@ -51,16 +38,17 @@ stretch_end-end-requires c = let p = passed-by c in (p.to, p.even, c.requires.0.
 
 pub walk-requires : goal.walk-requires
 walk-requires c =
+    let after-run_end-start = (goal.at.walk-requires c).After-run_end-start in
     simp (to_z-of_z, c.ranges.x, c.ranges.y) (
       c.requires.0,
       c.requires.1,
-      (passed-by (goal.at.walk-requires c).After-run_end-start).same (c.run_end-start.result / 2) (let f = (passed-by (goal.at.walk-requires c).After-run_end-start).from in omega arith) (omega arith) (px c) ∙ holds c,
+      (passed-by after-run_end-start).same (c.run_end-start.result / 2) (let f = (passed-by after-run_end-start).from in omega arith) (omega arith) c.args.x ∙ holds (goal.at.walk-requires c).In-loop-i,
       c.stretch_end-end.ensures,
     )
 
 -- what the walk holds at the end of the stretch
 walk_is : (c : After-walk)
-    → (c.walk.result ≡ walked (vs c) (px c) (py c) (c.stretch_end-end.result / 2))
+    → (c.walk.result ≡ walked c.args.v.now c.args.x c.args.y (c.stretch_end-end.result / 2))
 walk_is c = simp (to_z-of_z, c.ranges.x, c.ranges.y) at c.walk.ensures
 
 -- carried stays carried to the last edge
@@ -68,9 +56,9 @@ pub returns-in-Carried : goal.returns-in-Carried
 returns-in-Carried c =
     let t = c.stretch_end-end.ensures.to in
     let k = c.stretch_end-end.result / 2 in
-    let m = length (vs c) / 2 - k in
-    let q : k + m ≡ length (vs c) / 2 = omega arith in
-    sym (ap (walked (vs c) (px c) (py c)) (sym q) ∙ walked-carried (vs c) (px c) (py c) k m (sym (walk_is (goal.at.returns-in-Carried c).After-walk) ∙ c.in-Carried.is))
+    let m = length c.args.v.now / 2 - k in
+    let q : k + m ≡ length c.args.v.now / 2 = omega arith in
+    sym (ap (walked c.args.v.now c.args.x c.args.y) (sym q) ∙ walked-carried c.args.v.now c.args.x c.args.y k m (sym (walk_is (goal.at.returns-in-Carried c).After-walk) ∙ c.in-Carried.is))
 
 pub loop-i-smaller : goal.loop-i-smaller
 loop-i-smaller c =
@@ -78,7 +66,7 @@ loop-i-smaller c =
     let stretch = c.stretch_end-end.ensures in
     let t = stretch.to in
     let l = c.loop-i-test.true in
-    further (dec_lt c.run_end-start.result (length (vs c))) stretch p t l
+    further (dec_lt c.run_end-start.result (length c.args.v.now)) stretch p t l
   where
     further : {n i start end : ℕ} → Dec (start < n) → Stretch n start end → i ≤ start → end ≤ n → i < n → n - end < n - i
     further (yes u) stretch p t l = let o = stretch.onward u in omega arith
@@ -90,12 +78,12 @@ loop-i-preserved c =
     let stretch = c.stretch_end-end.ensures in
     let t = stretch.to in
     let now-holds = sym (walk_is (goal.at.loop-i-preserved c).After-walk) ∙ c.in-Summed.is in
-    let fits = fit-below {w = w64} (omega arith) (walked_in (vs c) (px c) (py c) (c.stretch_end-end.result / 2) _ now-holds) in
-    simp (to_z-of_z, f.x, f.y, fits) (now-holds, stretch.end_even, t, Fits-of_z fits)
+    let fits = fit-below {w = w64} (omega arith) (walked_in c.args.v.now c.args.x c.args.y (c.stretch_end-end.result / 2) _ now-holds) in
+    simp (to_z-of_z, f.x, f.y, fits) (now-holds, stretch.end_even, t, fits)
 
 pub returns : goal.returns
 returns c =
     let l = c.loop-i-test.false in
     let u = c.loop-i.invariant.2 in
-    let q : length (vs c) ≡ c.loop-i.i = omega arith in
-    rw q (sym (holds c))
+    let q : length c.args.v.now ≡ c.loop-i.i = omega arith in
+    rw q (sym (simp (to_z-of_z, c.ranges.x, c.ranges.y) at c.loop-i.invariant.0))

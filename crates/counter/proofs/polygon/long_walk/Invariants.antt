@@ -7,7 +7,7 @@ use native.Mathlib.Decide.{dec_lt}
 use lib.IntN.{ℤ}
 use lib.ListN.{length}
 use mir.Syntax.{w32, w64}
-use mir.Val.{Fits, to_z, of_z}
+use mir.Val.{SFits}
 use mir.Facts.{to_z-of_z, Fits-lit, Fits-of_z}
 use Rattle.integers.proofs.Bounds.{fit-below}
 use Rattle.counter.specs.Walk.{walked}
@@ -18,7 +18,7 @@ use borrow.Author.Rules.{rules}
 use Rattle.counter.proofs.polygon.long_walk.Given as goal
 
 abbrev pub invariant-loop-i : goal.invariant-loop-i
-invariant-loop-i l = (walked l.v (to_z w32 l.x) (to_z w32 l.y) (l.i / 2) ≡ Summed (to_z w64 l.sum)) × (l.i % 2 ≡ 0) × (l.i ≤ length l.v) × Fits w64 l.sum
+invariant-loop-i l = (walked l.v l.x l.y (l.i / 2) ≡ Summed l.sum) × (l.i % 2 ≡ 0) × (l.i ≤ length l.v) × SFits w64 l.sum
 
 abbrev pub decreases-loop-i : goal.decreases-loop-i
 decreases-loop-i l = l.n - l.i

@@ -53,4 +53,5 @@ overflow_sub-up c = search (asks (goal.at.overflow_sub-up c).Start)
 
 pub returns : goal.returns
 returns c =
-    record { right_is = zgives w64 (vs (goal.at.returns c).Start) (known (goal.at.returns c).Start) Right tt; up_is = zgives w64 (vs (goal.at.returns c).Start) (known (goal.at.returns c).Start) Up tt }
+    let entry = (goal.at.returns c).Start in
+    record { right_is = zgives w64 (vs entry) (known entry) Right tt; up_is = zgives w64 (vs entry) (known entry) Up tt }

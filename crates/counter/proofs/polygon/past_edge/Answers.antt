@@ -14,6 +14,8 @@ use Rattle.counter.specs.Polygon.{between}
 use Rattle.counter.specs.Inner.Walks.{turn_for}
 use Rattle.counter.proofs.WalkLaws.{edge_carries, edge_on_line, edge_aside, turn_for_in}
 use borrow.Author.Rules.{rules}
+use Rattle.counter.specs.Inner.Walks.{Near}
+use Rattle.counter.specs.declared.polygon.Offset.{Offset}
 use Rattle.counter.proofs.polygon.past_edge.Goals as goal
 use Rattle.counter.proofs.polygon.past_edge.Goals.{After-between, After-between-then-between, After-side-s, After-turn, Start, Then-s-eq0}
 
@@ -21,30 +23,23 @@ use Rattle.counter.proofs.polygon.past_edge.Goals.{After-between, After-between-
 test-is : (c : After-side-s) → eqb (of_z w64 c.side-s.result) (of_z w64 (pos 0)) ≡ eq_z c.side-s.result (pos 0)
 test-is c = eqb-bits w64 c.side-s.result (pos 0) (ok64 c.side-s.result c.side-s.type_inv) (sfits_lit tt)
 
--- the numbers of both ends fit
-module _ (entry : Start) where
-  a-right : SFits w64 entry.args.a.right
-  a-right = fit tt entry.requires.0.right_in
+-- the numbers of an end fit
+right-fits : {offset : Offset} → Near offset → SFits w64 offset.right
+right-fits near = fit tt near.right_in
 
-  b-right : SFits w64 entry.args.b.right
-  b-right = fit tt entry.requires.1.right_in
-
-  a-up : SFits w64 entry.args.a.up
-  a-up = fit tt entry.requires.0.up_in
-
-  b-up : SFits w64 entry.args.b.up
-  b-up = fit tt entry.requires.1.up_in
+up-fits : {offset : Offset} → Near offset → SFits w64 offset.up
+up-fits near = fit tt near.up_in
 
 -- what the calls answer, of the numbers themselves
 right_is : (c : After-between)
     → (let args = c.args in c.between.result ≡ between args.a.right args.b.right (pos 0))
-right_is c = simp (to_z-of_z, a-right c.before.before.before.before.before, b-right c.before.before.before.before.before) at c.between.ensures
+right_is c = simp (to_z-of_z, right-fits c.requires.0, right-fits c.requires.1) at c.between.ensures
 
 up_is : (c : After-between-then-between)
     → (let args = c.args in
     c.between-then-between.result ≡ between args.a.up args.b.up (pos 0))
 up_is c =
-    simp (to_z-of_z, a-up c.before.before.before.before.before.before.before.before.before, b-up c.before.before.before.before.before.before.before.before.before) at c.between-then-between.ensures
+    simp (to_z-of_z, up-fits c.requires.0, up-fits c.requires.1) at c.between-then-between.ensures
 
 -- the point is on the edge's line
 line : (c : Then-s-eq0) → eq_z c.side-s.result (pos 0) ≡ true

@@ -51,13 +51,14 @@ returns-then-h-y c = none (goal.at.returns-then-h-y c).Start
 
 pub loop-k-init : goal.loop-k-init
 loop-k-init c =
+    let entry = (goal.at.loop-k-init c).Start in
     let y = c.args.y in
     let j = c.vertex_before.result in
-    let h = get_or (v (goal.at.loop-k-init c).Start) (j + 1) (pos 0) in
-    let f = height (goal.at.loop-k-init c).Start (j + 1) in
+    let h = get_or (v entry) (j + 1) (pos 0) in
+    let f = height entry (j + 1) in
     let g = c.ranges.y in
     let differ = sym (eqb-bits w32 h y f g) ∙ ne_eqb _ _ c.if-h-y.false in
-    simp (to_z-of_z, f, g) (none (goal.at.loop-k-init c).Start, rw (← c.vertex_before.ensures) (differs-beyond h y differ))
+    simp (to_z-of_z, f, g) (none entry, rw (← c.vertex_before.ensures) (differs-beyond h y differ))
 
 pub overflow_add-k : goal.overflow_add-k
 overflow_add-k c = let l = c.loop-k.invariant.0.to in omega arith
@@ -78,15 +79,16 @@ loop-k-smaller c = let l = c.loop-k-test.true in omega arith
 
 pub loop-k-preserved : goal.loop-k-preserved
 loop-k-preserved c =
+    let entry = (goal.at.loop-k-preserved c).Start in
     let y = c.args.y in
     let k = c.loop-k.k in
-    let h = get_or (v (goal.at.loop-k-preserved c).Start) (c.vertex_before.result + 1) (pos 0) in
-    let f = height (goal.at.loop-k-preserved c).Start (c.vertex_before.result + 1) in
+    let h = get_or (v entry) (c.vertex_before.result + 1) (pos 0) in
+    let f = height entry (c.vertex_before.result + 1) in
     let g = c.ranges.y in
     let inv = simp (to_z-of_z, f, g) at c.loop-k.invariant in
     let beyond-four = simp (to_z-of_z, f, g) at (sym c.four_beyond.ensures ∙ not-false _ c.if-not-four_beyond.false-raw) in
     simp (to_z-of_z, f, g)
-    (apart_more (v (goal.at.loop-k-preserved c).Start) c.requires.0.even y (lt_z y h) c.args.i k inv.0 c.loop-k-test.true inv.1 beyond-four)
+    (apart_more (v entry) c.requires.0.even y (lt_z y h) c.args.i k inv.0 c.loop-k-test.true inv.1 beyond-four)
 
 pub returns : goal.returns
 returns c = simp (to_z-of_z, c.ranges.y) at c.loop-k.invariant.0

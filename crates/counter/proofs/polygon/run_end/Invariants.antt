@@ -18,7 +18,7 @@ use Rattle.counter.proofs.WalkLaws.{before_in, apart_none, apart_more}
 use Rattle.counter.proofs.polygon.run_end.Given as goal
 
 abbrev pub invariant-loop-k : goal.invariant-loop-k
-invariant-loop-k l = Apart l.v (to_z w32 l.y) l.i l.k × (beyond l.above (get_or l.v (vertex_before (length l.v) l.k + 1) (pos 0)) (to_z w32 l.y) ≡ true)
+invariant-loop-k l = Apart l.v l.y l.i l.k × (beyond l.above (get_or l.v (vertex_before (length l.v) l.k + 1) (pos 0)) l.y ≡ true)
 
 abbrev pub decreases-loop-k : goal.decreases-loop-k
 decreases-loop-k l = l.n - l.k

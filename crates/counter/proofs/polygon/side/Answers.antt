@@ -34,4 +34,6 @@ pub overflow_sub-result : goal.overflow_sub-result
 overflow_sub-result c = search (asks (goal.at.overflow_sub-result c).Start)
 
 pub returns : goal.returns
-returns c = zgives w64 (vs (goal.at.returns c).Start) (known (goal.at.returns c).Start) E tt
+returns c =
+    let entry = (goal.at.returns c).Start in
+    zgives w64 (vs entry) (known entry) E tt

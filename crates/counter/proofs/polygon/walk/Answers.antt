@@ -42,7 +42,7 @@ loop-i-init c =
       omega arith,
       stretch.from,
       stretch.start_even,
-      Fits-of_z f.before,
+      f.before,
     )
 
 -- in the loop: the vertex at i is there
@@ -102,14 +102,15 @@ past-it c =
 -- carried stays carried to the end of the stretch
 pub returns-in-Carried : goal.returns-in-Carried
 returns-in-Carried c =
+    let after-offset_of-next = (goal.at.returns-in-Carried c).After-offset_of-next in
     let stretch = c.requires.3 in
     let l = c.loop-i-test.true in
     let even = c.loop-i.invariant.4 in
     let end_even = stretch.end_even in
-    let k = (i (goal.at.returns-in-Carried c).After-offset_of-next + 2) / 2 in
+    let k = (i after-offset_of-next + 2) / 2 in
     let m = c.args.end / 2 - k in
     let q : k + m ≡ c.args.end / 2 = omega arith in
-    sym (ap (walked (v (goal.at.returns-in-Carried c).After-offset_of-next) (x (goal.at.returns-in-Carried c).After-offset_of-next) (y (goal.at.returns-in-Carried c).After-offset_of-next)) (sym q) ∙ walked-carried (v (goal.at.returns-in-Carried c).After-offset_of-next) (x (goal.at.returns-in-Carried c).After-offset_of-next) (y (goal.at.returns-in-Carried c).After-offset_of-next) k m (past-it (goal.at.returns-in-Carried c).After-past_edge ∙ c.in-Carried.is))
+    sym (ap (walked (v after-offset_of-next) (x after-offset_of-next) (y after-offset_of-next)) (sym q) ∙ walked-carried (v after-offset_of-next) (x after-offset_of-next) (y after-offset_of-next) k m (past-it (goal.at.returns-in-Carried c).After-past_edge ∙ c.in-Carried.is))
 
 pub overflow_add-i : goal.overflow_add-i
 overflow_add-i c = let l = vertex-there (goal.at.overflow_add-i c).In-loop-i in omega arith
@@ -119,6 +120,7 @@ loop-i-smaller c = let l = c.loop-i-test.true in omega arith
 
 pub loop-i-preserved : goal.loop-i-preserved
 loop-i-preserved c =
+    let after-offset_of-next = (goal.at.loop-i-preserved c).After-offset_of-next in
     let l = vertex-there (goal.at.loop-i-preserved c).In-loop-i in
     let t = c.loop-i-test.true in
     let f = c.ranges in
@@ -126,14 +128,14 @@ loop-i-preserved c =
     let even = c.loop-i.invariant.4 in
     let end_even = c.requires.3.end_even in
     let holds = past-it (goal.at.loop-i-preserved c).After-past_edge ∙ c.in-Summed.is in
-    let fits = fit-below {w = w64} (omega arith) (walked_in (v (goal.at.loop-i-preserved c).After-offset_of-next) (x (goal.at.loop-i-preserved c).After-offset_of-next) (y (goal.at.loop-i-preserved c).After-offset_of-next) ((i (goal.at.loop-i-preserved c).After-offset_of-next + 2) / 2) _ holds) in
+    let fits = fit-below {w = w64} (omega arith) (walked_in (v after-offset_of-next) (x after-offset_of-next) (y after-offset_of-next) ((i after-offset_of-next + 2) / 2) _ holds) in
     simp (to_z-of_z, f.x, f.y, fits) (
       holds,
-      rw (before-next (length (v (goal.at.loop-i-preserved c).After-offset_of-next)) (i (goal.at.loop-i-preserved c).After-offset_of-next) (i (goal.at.loop-i-preserved c).After-offset_of-next + 2) refl) (next-seen (goal.at.loop-i-preserved c).After-offset_of-next),
+      rw (before-next (length (v after-offset_of-next)) (i after-offset_of-next) (i after-offset_of-next + 2) refl) (next-seen after-offset_of-next),
       omega arith,
       omega arith,
       omega arith,
-      Fits-of_z fits,
+      fits,
     )
 
 pub returns : goal.returns
@@ -141,4 +143,4 @@ returns c =
     let l = c.loop-i-test.false in
     let u = c.loop-i.invariant.3 in
     let q : c.args.end ≡ c.loop-i.i = omega arith in
-    rw q (sym (simp (to_z-of_z, c.ranges.x, c.ranges.y) c c.loop-i.invariant.0))
+    rw q (sym (simp (to_z-of_z, c.ranges.x, c.ranges.y) at c.loop-i.invariant.0))

@@ -6,7 +6,7 @@ use native.Mathlib.Omega.{arith}
 use lib.IntN.{ℤ, pos}
 use lib.ListN.{length, get_or}
 use mir.Syntax.{w32, w64}
-use mir.Val.{Fits, to_z}
+use mir.Val.{SFits}
 use mir.Facts.{to_z-of_z, Fits-of_z}
 use Rattle.integers.proofs.Bounds.{fit-below}
 use Rattle.counter.specs.Walk.{walked, past}
@@ -23,8 +23,8 @@ SeenBefore v x y i offset = SeenFrom x y (get_or v (vertex_before (length v) i) 
 
 abbrev pub invariant-loop-i : goal.invariant-loop-i
 invariant-loop-i l =
-    (walked l.v (to_z w32 l.x) (to_z w32 l.y) (l.i / 2) ≡ Summed (to_z w64 l.sum)) × SeenBefore l.v (to_z w32 l.x) (to_z w32 l.y) l.i l.last
-    × (l.start ≤ l.i) × (l.i ≤ l.end) × (l.i % 2 ≡ 0) × Fits w64 l.sum
+    (walked l.v l.x l.y (l.i / 2) ≡ Summed l.sum) × SeenBefore l.v l.x l.y l.i l.last
+    × (l.start ≤ l.i) × (l.i ≤ l.end) × (l.i % 2 ≡ 0) × SFits w64 l.sum
 
 abbrev pub decreases-loop-i : goal.decreases-loop-i
 decreases-loop-i l = l.end - l.i

@@ -59,9 +59,10 @@ slice_bounds-in_ellipsoid-end c = let l = lies c in omega arith
 
 pub in_ellipsoid-member-requires : goal.in_ellipsoid-member-requires
 in_ellipsoid-member-requires c =
+    let after-first_of-e = (goal.at.in_ellipsoid-member-requires c).After-first_of-e in
     let pre = c.requires in
-    let l = event-long (n (goal.at.in_ellipsoid-member-requires c).After-first_of-e) (group (goal.at.in_ellipsoid-member-requires c).After-first_of-e) (e (goal.at.in_ellipsoid-member-requires c).After-first_of-e) (lies (goal.at.in_ellipsoid-member-requires c).After-first_of-e) in
-    rw (event-is (goal.at.in_ellipsoid-member-requires c).After-first_of-e, l) (pre.0.taken (e (goal.at.in_ellipsoid-member-requires c).After-first_of-e) (first (goal.at.in_ellipsoid-member-requires c).After-first_of-e).below (is-asked (goal.at.in_ellipsoid-member-requires c).After-first_of-e), pre.1, pre.2)
+    let l = event-long (n after-first_of-e) (group after-first_of-e) (e after-first_of-e) (lies after-first_of-e) in
+    rw (event-is after-first_of-e, l) (pre.0.taken (e after-first_of-e) (first after-first_of-e).below (is-asked after-first_of-e), pre.1, pre.2)
 
 pub settle-found-requires : goal.settle-found-requires
 settle-found-requires c = (first (goal.at.settle-found-requires c).After-first_of-e).below
@@ -79,7 +80,8 @@ loop-rest-smaller c =
 pub loop-rest-preserved : goal.loop-rest-preserved
 unfolding drawn_at
 loop-rest-preserved c =
-    asking_next c.args.among _ c.loop-rest.invariant (first (goal.at.loop-rest-preserved c).After-first_of-e) (rw (event-is (goal.at.loop-rest-preserved c).After-first_of-e) at c.in_ellipsoid-member.ensures)
+    let after-first_of-e = (goal.at.loop-rest-preserved c).After-first_of-e in
+    asking_next c.args.among _ c.loop-rest.invariant (first after-first_of-e) (rw (event-is after-first_of-e) at c.in_ellipsoid-member.ensures)
     c.settle-found.ensures
 
 pub returns : goal.returns

@@ -40,9 +40,10 @@ module _ (after-parent-of : After-parent_of) where
 
 pub returns-then-among-eq0 : goal.returns-then-among-eq0
 returns-then-among-eq0 c bits kept =
-    let step = step_at (plan (goal.at.returns-then-among-eq0 c).After-parent_of) (place (goal.at.returns-then-among-eq0 c).After-parent_of) in
-    let body = body_at (plan (goal.at.returns-then-among-eq0 c).After-parent_of) (place (goal.at.returns-then-among-eq0 c).After-parent_of) in
-    step_those c.requires.1 c.args.group.now kept (parent (goal.at.returns-then-among-eq0 c).After-parent_of) c.parent_set.ensures
+    let after-parent_of = (goal.at.returns-then-among-eq0 c).After-parent_of in
+    let step = step_at (plan after-parent_of) (place after-parent_of) in
+    let body = body_at (plan after-parent_of) (place after-parent_of) in
+    step_those c.requires.1 c.args.group.now kept (parent after-parent_of) c.parent_set.ensures
     {step = step} refl {body = body} refl (those_none c.if-among-eq0.true)
 
 -- the header that the code reads, and the body that it tells

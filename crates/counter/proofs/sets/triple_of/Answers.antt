@@ -81,8 +81,10 @@ pub offset_bounds-event-d : goal.offset_bounds-event-d
 offset_bounds-event-d c = let d = named (goal.at.offset_bounds-event-d c).In-loop-e in let n = c.requires.5 in omega arith
 
 pub bounds-event-d : goal.bounds-event-d
-bounds-event-d c = let l = event-long (n (goal.at.bounds-event-d c).In-loop-e) (group (goal.at.bounds-event-d c).In-loop-e) (e (goal.at.bounds-event-d c).In-loop-e) (lies (goal.at.bounds-event-d c).In-loop-e) in
-    rw (event-is (goal.at.bounds-event-d c).In-loop-e, l) (named (goal.at.bounds-event-d c).In-loop-e)
+bounds-event-d c =
+    let in-loop-e = (goal.at.bounds-event-d c).In-loop-e in
+    let l = event-long (n in-loop-e) (group in-loop-e) (e in-loop-e) (lies in-loop-e) in
+    rw (event-is in-loop-e, l) (named in-loop-e)
 
 pub settle-found-requires : goal.settle-found-requires
 settle-found-requires c =
@@ -98,20 +100,21 @@ overflow_add-e c =
 
 pub loop-e-preserved : goal.loop-e-preserved
 loop-e-preserved c =
+    let in-loop-e = (goal.at.loop-e-preserved c).In-loop-e in
     let loop = c.loop-e in
     let body = c.args.body.now in
     let i = c.args.i in
     let h = c.loop-e-test.true in
     let p = c.requires in
-    let l = event-long (n (goal.at.loop-e-preserved c).In-loop-e) (group (goal.at.loop-e-preserved c).In-loop-e) loop.e (lies (goal.at.loop-e-preserved c).In-loop-e) in
-    let d = named (goal.at.loop-e-preserved c).In-loop-e in
+    let l = event-long (n in-loop-e) (group in-loop-e) loop.e (lies in-loop-e) in
+    let d = named in-loop-e in
     let min-is = read_word body (i + 1) (let u = p.3 in omega arith) c.min-1.given in
     let max-is = read_word body (i + 2) p.3 c.span_of-arg-1.given in
-    let value-is = read_word (slice (goal.at.loop-e-preserved c).In-loop-e) c.number_in-d.result (rw (event-is (goal.at.loop-e-preserved c).In-loop-e, l) d) c.in_span-arg-1.given in
+    let value-is = read_word (slice in-loop-e) c.number_in-d.result (rw (event-is in-loop-e, l) d) c.in_span-arg-1.given in
     let holds =
     c.in_span-member.ensures
-    ∙ span_triple (n (goal.at.loop-e-preserved c).In-loop-e) (group (goal.at.loop-e-preserved c).In-loop-e) body i p.2 c.number_in-d.ensures loop.e
-    (value-is ∙ ap (λ (l : List ℤ). word l c.number_in-d.result) (event-is (goal.at.loop-e-preserved c).In-loop-e))
+    ∙ span_triple (n in-loop-e) (group in-loop-e) body i p.2 c.number_in-d.ensures loop.e
+    (value-is ∙ ap (λ (l : List ℤ). word l c.number_in-d.result) (event-is in-loop-e))
     min-is
     max-is
     c.span_of-span.ensures in

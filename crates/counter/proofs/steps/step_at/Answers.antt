@@ -78,16 +78,18 @@ returns-in-Box c = step (goal.at.returns-in-Box c).After-head_at-head c.in-Box.i
 
 pub plane_of-requires : goal.plane_of-requires
 plane_of-requires c =
-    let polygon = ready (goal.at.plane_of-requires c).After-head_at-head c.in-Polygon.is in
-    plane-ready c.requires.1 (body (goal.at.plane_of-requires c).After-head_at-head) polygon.0 polygon.1
+    let after-head_at-head = (goal.at.plane_of-requires c).After-head_at-head in
+    let polygon = ready after-head_at-head c.in-Polygon.is in
+    plane-ready c.requires.1 (body after-head_at-head) polygon.0 polygon.1
 
 pub returns-in-Polygon : goal.returns-in-Polygon
 returns-in-Polygon c = rw c.plane_of.ensures (step (goal.at.returns-in-Polygon c).After-head_at-head c.in-Polygon.is)
 
 pub plane_of-requires-in-Ellipse : goal.plane_of-requires-in-Ellipse
 plane_of-requires-in-Ellipse c =
-    let ellipse = ready (goal.at.plane_of-requires-in-Ellipse c).After-head_at-head c.in-Ellipse.is in
-    plane-ready c.requires.1 (body (goal.at.plane_of-requires-in-Ellipse c).After-head_at-head) ellipse.0 (let eight = ellipse.1 in omega arith)
+    let after-head_at-head = (goal.at.plane_of-requires-in-Ellipse c).After-head_at-head in
+    let ellipse = ready after-head_at-head c.in-Ellipse.is in
+    plane-ready c.requires.1 (body after-head_at-head) ellipse.0 (let eight = ellipse.1 in omega arith)
 
 pub oval_of-requires : goal.oval_of-requires
 oval_of-requires c = (ready (goal.at.oval_of-requires c).After-head_at-head c.in-Ellipse.is).1
@@ -107,8 +109,9 @@ returns-in-Not c = step (goal.at.returns-in-Not c).After-head_at-head c.in-Not.i
 
 pub plane_of-requires-in-DecimalEllipse : goal.plane_of-requires-in-DecimalEllipse
 plane_of-requires-in-DecimalEllipse c =
-    let ellipse = ready (goal.at.plane_of-requires-in-DecimalEllipse c).After-head_at-head c.in-DecimalEllipse.is in
-    plane-ready c.requires.1 (body (goal.at.plane_of-requires-in-DecimalEllipse c).After-head_at-head) ellipse.0 (let eight = ellipse.1 in omega arith)
+    let after-head_at-head = (goal.at.plane_of-requires-in-DecimalEllipse c).After-head_at-head in
+    let ellipse = ready after-head_at-head c.in-DecimalEllipse.is in
+    plane-ready c.requires.1 (body after-head_at-head) ellipse.0 (let eight = ellipse.1 in omega arith)
 
 pub oval_of-requires-in-DecimalEllipse : goal.oval_of-requires-in-DecimalEllipse
 oval_of-requires-in-DecimalEllipse c = (ready (goal.at.oval_of-requires-in-DecimalEllipse c).After-head_at-head c.in-DecimalEllipse.is).1
@@ -119,8 +122,9 @@ returns-in-DecimalEllipse c =
 
 pub space_of-requires : goal.space_of-requires
 space_of-requires c =
-    let ellipsoid = ready (goal.at.space_of-requires c).After-head_at-head c.in-Ellipsoid.is in
-    space_ready c.requires.1 (body (goal.at.space_of-requires c).After-head_at-head) ellipsoid.0 (let thirteen = ellipsoid.1 in omega arith)
+    let after-head_at-head = (goal.at.space_of-requires c).After-head_at-head in
+    let ellipsoid = ready after-head_at-head c.in-Ellipsoid.is in
+    space_ready c.requires.1 (body after-head_at-head) ellipsoid.0 (let thirteen = ellipsoid.1 in omega arith)
 
 pub solid_of-requires : goal.solid_of-requires
 solid_of-requires c = (ready (goal.at.solid_of-requires c).After-head_at-head c.in-Ellipsoid.is).1

@@ -69,30 +69,34 @@ overflow_add-m c = omega (arith, inside c, few c)
 
 pub put_line_from-at-requires : goal.put_line_from-at-requires
 put_line_from-at-requires c =
-    let size_is = long (goal.at.put_line_from-at-requires c).After-number_at-m in
-    let fits = inside (goal.at.put_line_from-at-requires c).After-number_at-m in
-    let most = few (goal.at.put_line_from-at-requires c).After-number_at-m in
+    let after-number_at-m = (goal.at.put_line_from-at-requires c).After-number_at-m in
+    let size_is = long after-number_at-m in
+    let fits = inside after-number_at-m in
+    let most = few after-number_at-m in
     rw c.part_at-in-loop-left.ensures (omega arith, omega arith)
 
 pub overflow_add-at : goal.overflow_add-at
 overflow_add-at c =
-    let short = rw (c.part_at-in-loop-left.ensures, long (goal.at.overflow_add-at c).After-number_at-m) at c.put_line_from-at.ensures.upper_bound in
-    omega (arith, inside (goal.at.overflow_add-at c).After-number_at-m, few (goal.at.overflow_add-at c).After-number_at-m, c.loop-left.invariant.0, short)
+    let after-number_at-m = (goal.at.overflow_add-at c).After-number_at-m in
+    let short = rw (c.part_at-in-loop-left.ensures, long after-number_at-m) at c.put_line_from-at.ensures.upper_bound in
+    omega (arith, inside after-number_at-m, few after-number_at-m, c.loop-left.invariant.0, short)
 
 pub overflow_add-word-in-loop-left : goal.overflow_add-word-in-loop-left
 overflow_add-word-in-loop-left c =
-    omega (arith, inside (goal.at.overflow_add-word-in-loop-left c).After-number_at-m, few (goal.at.overflow_add-word-in-loop-left c).After-number_at-m)
+    let after-number_at-m = (goal.at.overflow_add-word-in-loop-left c).After-number_at-m in
+    omega (arith, inside after-number_at-m, few after-number_at-m)
 
 pub loop-left-preserved : goal.loop-left-preserved
 loop-left-preserved c =
+    let after-number_at-m = (goal.at.loop-left-preserved c).After-number_at-m in
     let m = c.number_at-m.ensures in
-    let short = rw (c.part_at-in-loop-left.ensures, long (goal.at.loop-left-preserved c).After-number_at-m) at c.put_line_from-at.ensures.upper_bound in
+    let short = rw (c.part_at-in-loop-left.ensures, long after-number_at-m) at c.put_line_from-at.ensures.upper_bound in
     let written = rw c.part_at-in-loop-left.ensures at c.put_line_from-at.ensures.writes_from in (
       omega (arith, c.loop-left.invariant.0, short),
-      rw (step-next (plan (goal.at.loop-left-preserved c).After-number_at-m) (left (goal.at.loop-left-preserved c).After-number_at-m) (word (goal.at.loop-left-preserved c).After-number_at-m) (ends (goal.at.loop-left-preserved c).After-number_at-m) (some (goal.at.loop-left-preserved c).After-number_at-m) m) (next_end (plan (goal.at.loop-left-preserved c).After-number_at-m) (left (goal.at.loop-left-preserved c).After-number_at-m) (word (goal.at.loop-left-preserved c).After-number_at-m) (ends (goal.at.loop-left-preserved c).After-number_at-m) (some (goal.at.loop-left-preserved c).After-number_at-m)),
+      rw (step-next (plan after-number_at-m) (left after-number_at-m) (word after-number_at-m) (ends after-number_at-m) (some after-number_at-m) m) (next_end (plan after-number_at-m) (left after-number_at-m) (word after-number_at-m) (ends after-number_at-m) (some after-number_at-m)),
       c.put_line_from-at.auto.0 ∙ c.loop-left.invariant.2,
       λ d p.
-          progress_more _ d _ _ (c.loop-left.invariant.3 d p) (steps-more (plan (goal.at.loop-left-preserved c).After-number_at-m) (left (goal.at.loop-left-preserved c).After-number_at-m) (word (goal.at.loop-left-preserved c).After-number_at-m) (ends (goal.at.loop-left-preserved c).After-number_at-m) (some (goal.at.loop-left-preserved c).After-number_at-m) m) written,
+          progress_more _ d _ _ (c.loop-left.invariant.3 d p) (steps-more (plan after-number_at-m) (left after-number_at-m) (word after-number_at-m) (ends after-number_at-m) (some after-number_at-m) m) written,
     )
 
 pub shape_of-out : goal.shape_of-out

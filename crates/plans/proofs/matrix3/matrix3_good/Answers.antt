@@ -44,6 +44,7 @@ corner c = let f = c.ranges in simp (to_z-of_z, f.c11, f.c12, f.c22) at c.matrix
 pub returns-then-matrix_good : goal.returns-then-matrix_good
 unfolding matrix3_good
 returns-then-matrix_good c =
+    let entry = (goal.at.returns-then-matrix_good c).Start in
     let f = c.ranges in
     let m1 = simp (to_z-of_z, f.c22, f.c23, f.c33) at c.minor.ensures in
     let m2 = simp (to_z-of_z, f.c13, f.c12, f.c33, f.c23) at c.minor-then-matrix_good.ensures in
@@ -56,8 +57,8 @@ returns-then-matrix_good c =
     let w3 = (simp (to_z-of_z, f.c13, wider f.c13, kept3) at c.times-w3.ensures) ∙ ap (λ (z : ℤ). c.args.c13 *ℤ z) m3 in
     let d =
     plus-is c.plus-then-matrix_good.ensures (plus-is c.plus.ensures w1 w2) w3
-    ∙ sum-exact bounds (entries (goal.at.returns-then-matrix_good c).Start) (known (goal.at.returns-then-matrix_good c).Start) D tt in
-    c.is_positive.ensures ∙ ap (lt_z (pos 0)) d ∙ sym (ap (test (goal.at.returns-then-matrix_good c).Start) (sym (corner (goal.at.returns-then-matrix_good c).After-matrix_good) ∙ c.if-matrix_good.true))
+    ∙ sum-exact bounds (entries entry) (known entry) D tt in
+    c.is_positive.ensures ∙ ap (lt_z (pos 0)) d ∙ sym (ap (test entry) (sym (corner (goal.at.returns-then-matrix_good c).After-matrix_good) ∙ c.if-matrix_good.true))
 
 pub returns : goal.returns
 unfolding matrix3_good
