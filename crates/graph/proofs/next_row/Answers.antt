@@ -20,7 +20,7 @@ returns-then-has_bit-is_within c =
     let head = c.loop-r in
     let args = c.args in
     let set = args.set in
-    let t1 = args.t1.bits in
+    let t1 = args.rows.bits in
     sym (head.invariant.1 ∙ first_stop (held t1 set) args.n head.r loop-test.true
     (held-not t1 set head.r _ _ _ row_at.ensures has-bit.ensures c.is_within.ensures c.if-has_bit-is_within.true))
 
@@ -32,7 +32,7 @@ loop-r-preserved c =
     let head = c.loop-r in
     let args = c.args in
     let set = args.set in
-    let t1 = args.t1.bits in (
+    let t1 = args.rows.bits in (
       search rules,
       head.invariant.1 ∙ first_more (held t1 set) args.n head.r loop-test.true
           (held_still t1 set head.r _ _ _ row_at.ensures has-bit.ensures c.is_within.ensures c.if-has_bit-is_within.false),
@@ -41,4 +41,4 @@ loop-r-preserved c =
 pub returns : goal.returns
 returns c =
     let head = c.loop-r in
-    sym (head.invariant.1 ∙ first_end (held c.args.t1.bits c.args.set) c.args.n head.r c.loop-r-test.false)
+    sym (head.invariant.1 ∙ first_end (held c.args.rows.bits c.args.set) c.args.n head.r c.loop-r-test.false)

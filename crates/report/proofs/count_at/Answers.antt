@@ -7,6 +7,6 @@ use Rattle.report.proofs.count_at.Goals as goal
 
 pub returns-else-r-lt64 : goal.returns-else-r-lt64
 returns-else-r-lt64 c =
-    let long : length c.args.t1.counts ≡ 64 = search rules in
+    let long : length c.args.tally.counts ≡ 64 = search rules in
     let h = c.if-r-lt64.false in
-    sym (get_or-eq_default c.args.t1.counts 0 (omega arith))
+    sym (get_or-eq_default c.args.tally.counts 0 (omega arith))

@@ -7,7 +7,7 @@ use Rattle.resolve.proofs.start_at.Goals as goal
 
 pub returns-else-i-lt65 : goal.returns-else-i-lt65
 returns-else-i-lt65 c =
-    let t1 = c.args.t1.at in
+    let t1 = c.args.starts.at in
     let long : length (t1) ≡ 66 = search rules in
     let h = c.if-i-lt65.false in
     sym (get_or-eq_default (t1) 0 (omega arith))

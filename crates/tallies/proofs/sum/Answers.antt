@@ -7,18 +7,18 @@ pub loop-r-init : goal.loop-r-init
 loop-r-init c =
     let args = c.args in
     let long : length args.a.counts ≡ 64 = search rules in
-    (omega arith, added_none args.a.counts args.t2.counts long)
+    (omega arith, added_none args.a.counts args.b.counts long)
 
 pub loop-r-preserved : goal.loop-r-preserved
 loop-r-preserved c =
     let loop = c.loop-r in
     let args = c.args in
     let low : loop.r < 64 = omega arith in
-    (search rules, added_next args.a.counts args.t2.counts loop.r low loop.invariant.1 c.wrapping_add_u64.ensures.value)
+    (search rules, added_next args.a.counts args.b.counts loop.r low loop.invariant.1 c.wrapping_add_u64.ensures.value)
 
 pub returns : goal.returns
 returns c =
     let loop = c.loop-r in
     let args = c.args in
-    added_all args.a args.t2 c.wrapping_add_u64-taken.ensures.value c.wrapping_add_u64-spoilt.ensures.value
+    added_all args.a args.b c.wrapping_add_u64-taken.ensures.value c.wrapping_add_u64-spoilt.ensures.value
     c.wrapping_add_u64-unclaimed.ensures.value loop.r c.loop-r-test.false loop.invariant.1

@@ -10,7 +10,7 @@ use Rattle.events.proofs.SearchLaws.{Passed, passed_none, passed-more}
 use Rattle.events.proofs.parting.find_events.Given as goal
 
 abbrev pub invariant-loop-at : goal.invariant-loop-at
-invariant-loop-at l = Passed is_opening l.input l.before before
+invariant-loop-at l = Passed is_opening l.input l.at l.before
 
 abbrev pub decreases-loop-at : goal.decreases-loop-at
-decreases-loop-at l = length l.input - l.before
+decreases-loop-at l = length l.input - l.at

@@ -11,7 +11,7 @@ use Rattle.runreport.proofs.PrintLaws.{number_short, count-short, lines_none, li
 use Rattle.runreport.proofs.printing.put_regions.Given as goal
 
 abbrev pub invariant-loop-r : goal.invariant-loop-r
-invariant-loop-r l = (r ≤ l.tally) × (l.r ≤ 42 * r) × Written (number_lines l.initial.out.counts r) l.k l.r l.at
+invariant-loop-r l = (l.r ≤ l.k) × (l.at ≤ 42 * l.r) × Written (number_lines l.tally.counts l.r) l.initial.out l.at l.out
 
 abbrev pub decreases-loop-r : goal.decreases-loop-r
-decreases-loop-r l = l.tally - r
+decreases-loop-r l = l.k - l.r

@@ -9,35 +9,35 @@ use Rattle.sheet.proofs.ColumnLaws.{CountsTo, counts-none, counts-more, numbers-
 use Rattle.sheet.proofs.counting.put_numbers.Goals as goal
 
 pub loop-r-init : goal.loop-r-init
-loop-r-init c = counts-none c.args.t2 c.args.rest.now c.requires.long
+loop-r-init c = counts-none c.args.tally c.args.rest.now c.requires.long
 
 pub overflow_cast-tally : goal.overflow_cast-tally
 overflow_cast-tally c =
-    let h : get_or c.args.t2.counts c.loop-r.r 0 < 32769 = omega (arith, c.requires.count_most c.loop-r.r) in
+    let h : get_or c.args.tally.counts c.loop-r.r 0 < 32769 = omega (arith, c.requires.count_most c.loop-r.r) in
     search rules
 
 pub loop-r-preserved : goal.loop-r-preserved
 loop-r-preserved c =
-    counts-more c.args.t2 c.args.rest.now c.requires.long c.loop-r.r (omega arith) c.loop-r.invariant refl c.put_at.ensures
+    counts-more c.args.tally c.args.rest.now c.requires.long c.loop-r.r (omega arith) c.loop-r.invariant refl c.put_at.ensures
 
 pub overflow_cast-tally-2 : goal.overflow_cast-tally-2
 overflow_cast-tally-2 c =
-    let h : c.args.t2.taken < 32769 = omega (arith, c.requires.taken_most) in
+    let h : c.args.tally.taken < 32769 = omega (arith, c.requires.taken_most) in
     search rules
 
 pub overflow_cast-tally-3 : goal.overflow_cast-tally-3
 overflow_cast-tally-3 c =
-    let h : c.args.t2.spoilt < 32769 = omega (arith, c.requires.spoilt_most) in
+    let h : c.args.tally.spoilt < 32769 = omega (arith, c.requires.spoilt_most) in
     search rules
 
 pub overflow_cast-tally-4 : goal.overflow_cast-tally-4
 overflow_cast-tally-4 c =
-    let h : c.args.t2.unclaimed < 32769 = omega (arith, c.requires.unclaimed_most) in
+    let h : c.args.tally.unclaimed < 32769 = omega (arith, c.requires.unclaimed_most) in
     search rules
 
 pub returns : goal.returns
 returns c =
-    numbers-written c.args.t2 c.args.rest.now c.requires.long c.loop-r.r c.loop-r-test.false c.loop-r.invariant
+    numbers-written c.args.tally c.args.rest.now c.requires.long c.loop-r.r c.loop-r-test.false c.loop-r.invariant
     refl c.put_at-2.ensures refl c.put_at-3.ensures refl c.put_at-4.ensures
 
 pub shape_of-rest : goal.shape_of-rest

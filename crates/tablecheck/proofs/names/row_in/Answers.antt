@@ -7,7 +7,7 @@ use Rattle.tablecheck.proofs.names.row_in.Goals as goal
 
 pub returns-else-i-lt64 : goal.returns-else-i-lt64
 returns-else-i-lt64 c =
-    let t1 = c.args.t1.bits in
+    let t1 = c.args.rows.bits in
     let long : length t1 ≡ 64 = search rules in
     let h = c.if-i-lt64.false in
     sym (get_or-eq_default t1 0 (omega arith))
