@@ -90,7 +90,7 @@ module _ (s : List ℕ) (h : has_events s ≡ true) where
           (λ (k : length l ≤ i). absurd (let z : get_or l i 0 ≡ 0 = get_or-eq_default l 0 k in omega arith))
           (lt_or_ge i (length l))
 
-  -- the lines of the events follow the line `events`: line k of them is line tableLines + 1 + k of the input
+  -- the lines of the events follow the line `events`: line k of them is line table_lines + 1 + k of the input
   pub event-lines : lines (event_part s) ≡ drop (table_lines s + 1) (lines s)
   unfolding event_part
   event-lines =

@@ -3,7 +3,7 @@ ghost use Rattle.std.specs.Prelude.{◌≡◌, ◌+◌, ◌≤◌, length, set, 
 ghost use Rattle.text.specs.Output.{over, Writes};
 ghost use Rattle.text.specs.Inner.Writing.{WritesFrom};
 ghost use Rattle.text.specs.Inner.Kept.{kept};
-ghost use Rattle.events.specs.Listing.{opens as opensList, is_event, list_part, bad_line, ragged_line, events_of};
+ghost use Rattle.events.specs.Listing.{opens as opens_list, is_event, list_part, bad_line, ragged_line, events_of};
 ghost use Rattle.events.specs.Inner.Answers.{answer_of, listed, line_kept, values_kept};
 
 use crate::parting::split;
@@ -42,7 +42,7 @@ fn is_event(line: &[u8], n: usize) -> bool
 
 // Whether a line that is not a column line opens a further list: `events`, where there may be several lists.
 pub fn opens(line: &[u8], several: bool) -> bool
-    ensures { result ≡ opensList several line.now }
+    ensures { result ≡ opens_list several line.now }
 {
     let again = same(b"events", line);
     several & again

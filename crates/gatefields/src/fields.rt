@@ -1,8 +1,8 @@
 // What a line's single fields say.
 ghost use Rattle.std.specs.Prelude.{◌≡◌, cond, ◌-◌, length, drop};
-ghost use Rattle.text.specs.Bytes.{same as sameBytes};
+ghost use Rattle.text.specs.Bytes.{same as same_bytes};
 ghost use Rattle.text.specs.Lines.{fields};
-ghost use Rattle.gates.specs.Inner.Regions.{combines as combinesOf};
+ghost use Rattle.gates.specs.Inner.Regions.{combines as combines_of};
 ghost use Rattle.gates.specs.Kinds.{carries_point, kind_named, line_kind, step_kind, is_unknown, is_quad, is_star, is_none, is_parent, is_complement, operand_name, is_operand, dimension_of, value_of, thousandths_of};
 ghost use Rattle.gates.specs.declared.LineKind.TheVariants.{Ellip, DecimalEllip};
 
@@ -28,7 +28,7 @@ pub fn minus(x: usize, y: usize) -> usize
 
 // A kind where x is its name, or another.
 fn kind_or(x: &[u8], name: &[u8], kind: LineKind, other: LineKind) -> LineKind
-    ensures { result ≡ cond (sameBytes x.now name.now) kind other }
+    ensures { result ≡ cond (same_bytes x.now name.now) kind other }
 {
     if same(x, name) { kind } else { other }
 }
@@ -118,7 +118,7 @@ pub fn is_quad(kind: LineKind) -> bool
 
 // Whether the gate of a line combines operands.
 pub fn combines(kind: LineKind) -> bool
-    ensures { result ≡ combinesOf kind }
+    ensures { result ≡ combines_of kind }
 {
     let n = kind_number(step_kind(kind));
     (4 <= n) & (n <= 6)

@@ -4,7 +4,7 @@ ghost use Rattle.text.specs.Lines.{fields};
 ghost use Rattle.plans.specs.Symmetric.{symmetric_from};
 ghost use Rattle.plans.specs.Form.{matrix3_good};
 ghost use Rattle.gates.specs.Kinds.{field_at, value_of};
-ghost use Rattle.gates.specs.Refusal.{shape_good, becomes as becomesOf, entry_of, matrix_passes, tiling_passes, line_refusal};
+ghost use Rattle.gates.specs.Refusal.{shape_good, becomes as becomes_of, entry_of, matrix_passes, tiling_passes, line_refusal};
 
 use crate::tiling::tiles;
 use gatefields::fields::{
@@ -30,7 +30,7 @@ fn shape_good(kind: LineKind, m: usize, line: &[u8]) -> bool
 
 // Whether a line becomes the kind of step with a number.
 fn becomes(number: u8, kind: LineKind) -> bool
-    ensures { result ≡ becomesOf number kind }
+    ensures { result ≡ becomes_of number kind }
 {
     kind_number(step_kind(kind)) == number
 }

@@ -2,8 +2,8 @@
 ghost use Rattle.std.specs.Prelude.{◌≡◌, ◌<◌, ◌≤◌, ◌^◌};
 ghost use Rattle.text.specs.Lines.{fields};
 ghost use Rattle.plans.specs.Indices.{how_many};
-ghost use Rattle.gates.specs.Quads.{divider_count, divider_value, quadrant_count, representative as representativeOf};
-ghost use Rattle.gates.specs.Tiling.{interval as intervalOf, holds_interval, interval_in as part_of, is_combination, holds_combination, held_once, tiles as tilesOf};
+ghost use Rattle.gates.specs.Quads.{divider_count, divider_value, quadrant_count, representative as representative_of};
+ghost use Rattle.gates.specs.Tiling.{interval as interval_of, holds_interval, interval_in as part_of, is_combination, holds_combination, held_once, tiles as tiles_of};
 
 use gatefields::fields::{is_star, pick, value_of};
 use gatefields::quads::{divider_at, divider_count, quadrant_at, quadrant_count, value_count};
@@ -20,7 +20,7 @@ pub fn divider_value(line: &[u8], t: usize, j: usize) -> i32
 // The interval of divider t that x lies in.
 pub fn interval(line: &[u8], t: usize, x: i32) -> usize
     requires { t ≤ 3 }
-    ensures { (result ≡ intervalOf (fields line.now) t x) × (result ≤ 3) }
+    ensures { (result ≡ interval_of (fields line.now) t x) × (result ≤ 3) }
 {
     let n = value_count(line, t);
     let mut k: usize = 0;
@@ -35,7 +35,7 @@ pub fn interval(line: &[u8], t: usize, x: i32) -> usize
 // What quadrant q has for divider t.
 pub fn representative(line: &[u8], q: usize, t: usize) -> &[u8]
     requires { (q < quadrant_count (fields line.now)) × (t < divider_count (fields line.now)) }
-    ensures { result.now ≡ representativeOf (fields line.now) q t }
+    ensures { result.now ≡ representative_of (fields line.now) q t }
 {
     field(line, quadrant_at(line, q) + 1 + t)
 }
@@ -130,7 +130,7 @@ fn combinations(d: usize) -> usize
 }
 
 pub fn tiles(line: &[u8]) -> bool
-    ensures { result ≡ tilesOf (fields line.now) }
+    ensures { result ≡ tiles_of (fields line.now) }
 {
     let n = combinations(divider_count(line));
     if n < quadrant_count(line) {

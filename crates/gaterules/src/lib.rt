@@ -5,7 +5,7 @@ ghost use Rattle.std.specs.Prelude.{◌≡◌, ◌+◌, ◌≤◌, min, drop};
 ghost use Rattle.text.specs.Lines.{fields};
 ghost use Rattle.gates.specs.Inner.Bounds.{Bound, DecimalBound};
 ghost use Rattle.gates.specs.Rules.{rect_rule, poly_rule, ellip_rule, ellip3_rule, divider_rule, divider_of, quad_rule, body_rule, rule_of, is_dimension};
-ghost use Rattle.gates.specs.Rules.{dimension_passes, number_refusal, decimal_refusal, optional_refusal, field_refusal, fields_refusal, unless as unlessOf, repeated as isRepeated, uncrossed as risesOf};
+ghost use Rattle.gates.specs.Rules.{dimension_passes, number_refusal, decimal_refusal, optional_refusal, field_refusal, fields_refusal, unless as unless_of, repeated as is_repeated, uncrossed as rises_of};
 
 use decimals::{Decimal, read_decimal};
 use gatefields::fields::{
@@ -175,7 +175,7 @@ fn is_dimension(rule: Rule) -> bool
 
 // Whether the dimension at k stands before k too.
 fn repeated(kind: LineKind, line: &[u8], k: usize) -> bool
-    ensures { result ≡ isRepeated kind (fields line.now) k }
+    ensures { result ≡ is_repeated kind (fields line.now) k }
 {
     let x = field(line, k);
     let mut b = false;
@@ -194,7 +194,7 @@ fn dimension_passes(head: &[u8], kind: LineKind, line: &[u8], k: usize) -> bool
 }
 
 fn unless(good: bool, refusal: u8) -> u8
-    ensures { result ≡ unlessOf good refusal }
+    ensures { result ≡ unless_of good refusal }
 {
     if good { NONE } else { refusal }
 }
@@ -238,7 +238,7 @@ fn optional_refusal(lo: i32, hi: i32, x: &[u8]) -> u8
 
 // Whether of two numbers the first is below the second.
 fn rises(y: &[u8], x: &[u8]) -> bool
-    ensures { result ≡ risesOf y.now x.now }
+    ensures { result ≡ rises_of y.now x.now }
 {
     !(is_number(y) & (is_number(x) & (value_of(x) <= value_of(y))))
 }

@@ -18,7 +18,7 @@ use Rattle.decimals.specs.Decimals.{has_point, before_point, after_point, unsign
 use Rattle.gates.specs.Kinds.{carries_point, kind_named, line_kind, step_kind, is_none, is_parent, dimension_of, value_of, thousandths_of}
 use Rattle.gates.specs.Rules.{ellip_rule, rule_of, number_refusal, decimal_refusal, repeated, dimension_passes, field_refusal, fields_refusal}
 use Rattle.gates.specs.Refusal.{kind_refusal, line_refusal}
-use Rattle.gates.specs.Gate.{decimalEllip}
+use Rattle.gates.specs.Gate.{decimal_ellip}
 use Rattle.gates.specs.Encoding.{axes_word, decimal_word, leaf_words}
 
 abbrev head : List (List ℕ)
@@ -58,7 +58,7 @@ unfolding all any matrix_good in_range same fields is_name is_negative unsigned 
 decimals-earn = refl
 
 pub decimal-words :
-    leaf_words (decimalEllip head (ellipse (bytes "-5 6 1134.5 -0.5 30625 0.001")))
+    leaf_words (decimal_ellip head (ellipse (bytes "-5 6 1134.5 -0.5 30625 0.001")))
     ≡ pos 0 ∷ pos 1 ∷ negsuc 4 ∷ pos 6 ∷ pos 1134500 ∷ negsuc 499 ∷ pos 30625000 ∷ pos 1 ∷ []
 unfolding same fields is_negative unsigned is_positive is_number number_value clamp_to clamp has_point before_point after_point unsigned_thousandths thousandths
     is_whole is_one_to_three is_minus_zero is_decimal dimension_of value_of thousandths_of axes_word decimal_word

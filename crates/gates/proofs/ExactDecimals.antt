@@ -16,7 +16,7 @@ use Rattle.gates.specs.declared.LineKind.TheVariants.{DecimalEllip}
 use Rattle.gates.specs.declared.Rule.TheVariants.{DecimalEntry, DecimalDistance}
 use Rattle.gates.specs.Kinds.{field_at, value_of, thousandths_of}
 use Rattle.gates.specs.Rules.{ellip_rule, rule_of}
-use Rattle.gates.specs.Gate.{Event, decimalEllip}
+use Rattle.gates.specs.Gate.{Event, decimal_ellip}
 use Rattle.gates.specs.Meaning.{value_under, in_decimal_ellip, holds}
 use Rattle.gates.specs.Outlines.{on_decimal_ellip, outline_holds}
 use Rattle.gates.proofs.AcceptedLaws.{Accepted, earned-none, thousandths-is}
@@ -54,10 +54,10 @@ module _ (head fs : List (List ℕ)) (a : Accepted head DecimalEllip fs) where
         rw (entry-exact 7 (omega arith) refl, entry-exact 8 (omega arith) refl, entry-exact 9 (omega arith) refl, distance-exact)
         (sym (decimal-exact _ _ _ _ _ _ _ _))
 
-    pub line-holds-exactly : holds (decimalEllip head fs) e ≡ not_outside exactly
+    pub line-holds-exactly : holds (decimal_ellip head fs) e ≡ not_outside exactly
     unfolding in_decimal_ellip
     line-holds-exactly = sym (decimal_in _ _ _ _ _ _ _ _) ∙ ap not_outside position-exact
 
-    pub line-outline-exactly : outline_holds (decimalEllip head fs) e ≡ is_on_outline exactly
+    pub line-outline-exactly : outline_holds (decimal_ellip head fs) e ≡ is_on_outline exactly
     unfolding on_decimal_ellip
     line-outline-exactly = ap is_on_outline position-exact

@@ -9,7 +9,7 @@ use Rattle.plans.specs.Kinds.{spans}
 use Rattle.gates.specs.declared.LineKind.{LineKind}
 use Rattle.gates.specs.declared.LineKind.TheVariants.{Rect, Poly, Ellip, DecimalEllip, Ellip3, Quad, And, Or, Not, Unknown}
 use Rattle.gates.specs.Kinds.{step_kind, is_quad}
-use Rattle.gates.specs.Gate.{Leaf, rect, poly, ellip, decimalEllip, ellip3, leaf, one}
+use Rattle.gates.specs.Gate.{Leaf, rect, poly, ellip, decimal_ellip, ellip3, leaf, one}
 use Rattle.gates.specs.Meaning.{body_of}
 use Rattle.gates.specs.Encoding.{rect_word, plane_word, decimal_word, space_word, leaf_kind, leaf_words}
 use Rattle.gates.specs.Inner.Regions.{combines}
@@ -47,7 +47,7 @@ module _ (head fs : List (List ℕ)) where
   sort_of Poly = draws (poly head fs) refl refl refl refl (length-tab (plane_word head fs) (length fs - 3)) (poly_good head fs)
   sort_of Ellip = draws (ellip head fs) refl refl refl refl (length-tab (plane_word head fs) (length fs - 3)) (ellip_good head fs)
   sort_of DecimalEllip =
-      draws (decimalEllip head fs) refl refl refl refl (length-tab (decimal_word head fs) (length fs - 3)) (decimal_ellip_good head fs)
+      draws (decimal_ellip head fs) refl refl refl refl (length-tab (decimal_word head fs) (length fs - 3)) (decimal_ellip_good head fs)
   sort_of Ellip3 = draws (ellip3 head fs) refl refl refl refl (length-tab (space_word head fs) (length fs - 3)) (ellip3_good head fs)
   sort_of Quad = quad_line
   sort_of And = and_line

@@ -16,7 +16,7 @@ use Rattle.gates.specs.declared.LineKind.TheVariants.{Ellip, DecimalEllip}
 use Rattle.gates.specs.declared.Rule.TheVariants.{Entry, Distance, DecimalEntry, DecimalDistance}
 use Rattle.gates.specs.Kinds.{field_at, value_of, thousandths_of}
 use Rattle.gates.specs.Rules.{no_refusal, number_refusal, decimal_refusal, ellip_rule, rule_of}
-use Rattle.gates.specs.Gate.{Event, ellip, decimalEllip}
+use Rattle.gates.specs.Gate.{Event, ellip, decimal_ellip}
 use Rattle.gates.specs.Meaning.{value_under, in_ellip, in_decimal_ellip, holds}
 use Rattle.gates.specs.Inner.Bounds.{Bound, DecimalBound}
 use Rattle.gates.specs.Outlines.{on_ellip, on_decimal_ellip, outline_holds}
@@ -85,10 +85,10 @@ module _ (head fs gs : List (List ℕ)) (decimal : Accepted head DecimalEllip fs
         )
         (decimal-whole _ _ _ _ _ _ _ _)
 
-    pub zeros_hold : holds (decimalEllip head fs) e ≡ holds (ellip head gs) e
+    pub zeros_hold : holds (decimal_ellip head fs) e ≡ holds (ellip head gs) e
     unfolding in_decimal_ellip in_ellip
     zeros_hold = sym (decimal_in _ _ _ _ _ _ _ _) ∙ ap not_outside position-same ∙ ellipse_in_lem _ _ _ _ _ _ _ _
 
-    pub zeros-outline : outline_holds (decimalEllip head fs) e ≡ outline_holds (ellip head gs) e
+    pub zeros-outline : outline_holds (decimal_ellip head fs) e ≡ outline_holds (ellip head gs) e
     unfolding on_decimal_ellip on_ellip
     zeros-outline = ap is_on_outline position-same

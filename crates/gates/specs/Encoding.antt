@@ -6,7 +6,7 @@ use Rattle.plans.specs.declared.Kind.TheVariants.{Box, Polygon, Ellipse, Decimal
 use Rattle.gates.specs.Kinds.{field_at, is_star, dimension_of, value_of, thousandths_of}
 use Rattle.gates.specs.Quads.{divider_count, divider_field, value_count, divider_value, representative}
 use Rattle.gates.specs.Tiling.{interval}
-use Rattle.gates.specs.Gate.{Leaf, rect, poly, ellip, decimalEllip, ellip3, quadrant}
+use Rattle.gates.specs.Gate.{Leaf, rect, poly, ellip, decimal_ellip, ellip3, quadrant}
 
 -- 01: "A missing min is −65,536, a missing max 65,536"
 unfoldable pub min_word : List ℕ → ℤ
@@ -63,7 +63,7 @@ abbrev pub leaf_kind : Leaf → Kind
 leaf_kind (rect head fs) = Box
 leaf_kind (poly head fs) = Polygon
 leaf_kind (ellip head fs) = Ellipse
-leaf_kind (decimalEllip head fs) = DecimalEllipse
+leaf_kind (decimal_ellip head fs) = DecimalEllipse
 leaf_kind (ellip3 head fs) = Ellipsoid
 leaf_kind (quadrant head fs q) = Box
 
@@ -71,6 +71,6 @@ abbrev pub leaf_words : Leaf → List ℤ
 leaf_words (rect head fs) = tab (rect_word head fs) (length fs - 3)
 leaf_words (poly head fs) = tab (plane_word head fs) (length fs - 3)
 leaf_words (ellip head fs) = tab (plane_word head fs) (length fs - 3)
-leaf_words (decimalEllip head fs) = tab (decimal_word head fs) (length fs - 3)
+leaf_words (decimal_ellip head fs) = tab (decimal_word head fs) (length fs - 3)
 leaf_words (ellip3 head fs) = tab (space_word head fs) (length fs - 3)
 leaf_words (quadrant head fs q) = tab (quadrant_word head fs q) (3 * divider_count fs)

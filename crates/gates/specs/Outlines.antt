@@ -6,7 +6,7 @@ use Rattle.counter.specs.DecimalEllipse.{decimal_ellipse_position}
 use Rattle.counter.specs.Ellipsoid.{ellipsoid_position}
 use Rattle.gates.specs.Kinds.{field_at, value_of, thousandths_of}
 use Rattle.gates.specs.Meaning.{value_under, vertices_of}
-use Rattle.gates.specs.Gate.{Event, Leaf, rect, poly, ellip, decimalEllip, ellip3, quadrant}
+use Rattle.gates.specs.Gate.{Event, Leaf, rect, poly, ellip, decimal_ellip, ellip3, quadrant}
 
 unfoldable pub on_poly : List (List ℕ) → List (List ℕ) → Event → Bool
 on_poly head fs e = is_on_outline (polygon_position (vertices_of fs) (value_under head e (field_at fs 3)) (value_under head e (field_at fs 4)))
@@ -35,6 +35,6 @@ abbrev pub outline_holds : Leaf → Event → Bool
 outline_holds (rect head fs) e = false
 outline_holds (poly head fs) e = on_poly head fs e
 outline_holds (ellip head fs) e = on_ellip head fs e
-outline_holds (decimalEllip head fs) e = on_decimal_ellip head fs e
+outline_holds (decimal_ellip head fs) e = on_decimal_ellip head fs e
 outline_holds (ellip3 head fs) e = on_ellip3 head fs e
 outline_holds (quadrant head fs q) e = false

@@ -33,7 +33,7 @@ use Rattle.redrawntables.proofs.AlikeLaws.{along-to, regions-alike}
 use Rattle.redrawntables.proofs.VerdictLaws.{verdict-redrawn}
 use Rattle.redrawntables.proofs.TableTheorems.{alike, lines-redrawn}
 
--- text is the accepted table, drawnText the same with polygon lines redrawn, again that one with its gate lines in another order
+-- text is the accepted table, drawn_text the same with polygon lines redrawn, again that one with its gate lines in another order
 module _ (text : List ℕ) (e : table_verdict 4096 text ≡ passed) (ks : List (List ℕ)) (r : LinesRedrawn (gate_lines text) ks)
     (js : List (List ℕ)) (order : LineOrder (reordered text ks) js) where
   abbrev drawn_text : List ℕ

@@ -62,31 +62,31 @@ module _ (slice : ℕ) (text : List ℕ) (e : table_verdict slice text ≡ passe
   unfolding is_right
   right-same columns = rw (dimensions-redrawn text a.ends ks r)
 
-  module _ (columns : List ℕ) (lentSlice values : List ℤ) (f : table_verdict (length lentSlice) text ≡ passed) where
-    g : table_verdict (length lentSlice) again ≡ passed
-    g = verdict-redrawn text a.ends ks r (length lentSlice) ∙ f
+  module _ (columns : List ℕ) (lent_slice values : List ℤ) (f : table_verdict (length lent_slice) text ≡ passed) where
+    g : table_verdict (length lent_slice) again ≡ passed
+    g = verdict-redrawn text a.ends ks r (length lent_slice) ∙ f
 
-    words_same : (compile_of again lentSlice).words ≡ (compile_of text lentSlice).words
+    words_same : (compile_of again lent_slice).words ≡ (compile_of text lent_slice).words
     unfolding compile_of
     words_same = rw (f, g) plans.size
 
-    regions-same : (compile_of again lentSlice).regions ≡ (compile_of text lentSlice).regions
-    regions-same = compiled-regions again lentSlice g ∙ along-length (regions-alike alike) ∙ sym (compiled-regions text lentSlice f)
+    regions-same : (compile_of again lent_slice).regions ≡ (compile_of text lent_slice).regions
+    regions-same = compiled-regions again lent_slice g ∙ along-length (regions-alike alike) ∙ sym (compiled-regions text lent_slice f)
 
     count_same : count_of (plan_of again) values ≡ count_of (plan_of text) values
     count_same = count-redrawn plans (plan-passes slice text a) today (λ kind known. known) values
 
-    counted-redrawn : SameCounting (count_table_of text columns lentSlice values) (count_table_of again columns lentSlice values)
+    counted-redrawn : SameCounting (count_table_of text columns lent_slice values) (count_table_of again columns lent_slice values)
     counted-redrawn = go (passed_or_failed (is_right text columns))
       where
         go : (is_right text columns ≡ true) ⊎ (is_right text columns ≡ false)
-            → SameCounting (count_table_of text columns lentSlice values) (count_table_of again columns lentSlice values)
+            → SameCounting (count_table_of text columns lent_slice values) (count_table_of again columns lent_slice values)
         go (inl right) =
-            rw (table_counted text columns lentSlice values f right, table_counted again columns lentSlice values g (right-same columns ∙ right), count_same)
-            (same-counted lentSlice (compile_of text lentSlice) (compile_of again lentSlice) (count_of (plan_of text) values) words_same regions-same)
+            rw (table_counted text columns lent_slice values f right, table_counted again columns lent_slice values g (right-same columns ∙ right), count_same)
+            (same-counted lent_slice (compile_of text lent_slice) (compile_of again lent_slice) (count_of (plan_of text) values) words_same regions-same)
         go (inr wrong) =
             let same_head = dimensions-redrawn text a.ends ks r in
-            rw (columns-refused text columns lentSlice values f wrong, columns-refused again columns lentSlice values g (right-same columns ∙ wrong), same_head)
+            rw (columns-refused text columns lent_slice values f wrong, columns-refused again columns lent_slice values g (right-same columns ∙ wrong), same_head)
             (record { verdict = refl; words = refl; regions = refl; tally = refl })
 
   pub lines-redrawn : SameByTable text again

@@ -1,5 +1,5 @@
 -- `member` obeys 01's equations on every table whose regions are orderly, and nothing else does.
-use mathlib.Core.Path.{◌≡◌, refl, sym, ◌∙◌}
+use mathlib.Core.Path.{◌≡◌, refl, sym, subst, ◌∙◌}
 use mathlib.Core.Bool.{Bool, true, false, ◌&&◌, ◌||◌}
 use mathlib.Core.Option.{Option, none, some}
 use mathlib.Core.List.Memᴰ
@@ -61,7 +61,9 @@ module _ (test : Region → Bool) where
 
   pub at-region : {r : Region} {rs : List Region} → Distinct (names rs) → r ∈ rs
       → some_of (λ (x : Region). same r.name x.name && test x) rs ≡ test r
-  at-region {r} d (here {x = x} {xs = rs} q) = rw q (rw (same_refl x.name, absent x.name rs d.0) (or_false (test x)))
+  at-region {r} d (here {x = x} {xs = rs} q) =
+      subst (λ (y : Region). some_of (λ (z : Region). same y.name z.name && test z) (x ∷ rs) ≡ test y) (sym q)
+      (rw (same_refl x.name, absent x.name rs d.0) (or_false (test x)))
   at-region {r} d (there {x = x} {xs = rs} k) =
       rw (same_not r.name x.name (λ q. d.0 (Memᴰ.cast (sym q) (map_in (λ (y : Region). y.name) k)))) (at-region d.1 k)
 

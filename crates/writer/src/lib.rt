@@ -6,7 +6,7 @@ ghost use Rattle.text.specs.Bounded.{tab};
 ghost use Rattle.text.specs.Lines.{fields};
 ghost use Rattle.text.specs.Output.{Writes};
 ghost use Rattle.gates.specs.Kinds.{line_kind};
-ghost use Rattle.gates.specs.Inner.Regions.{body_length, body_word_of, combines as combinesOf};
+ghost use Rattle.gates.specs.Inner.Regions.{body_length, body_word_of, combines as combines_of};
 ghost use Rattle.writer.specs.Inner.Words.{number_word, parent_number_word, header, operand_number_word, step_by};
 
 use gatefields::fields::{combines, kind_of};
@@ -15,7 +15,7 @@ use text::output::lesser;
 
 // Whether the gate of a line combines operands.
 pub fn has_operands(line: &[u8]) -> bool
-    ensures { result ≡ combinesOf (line_kind (fields line.now)) }
+    ensures { result ≡ combines_of (line_kind (fields line.now)) }
 {
     combines(kind_of(line))
 }

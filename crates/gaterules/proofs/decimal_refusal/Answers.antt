@@ -12,7 +12,7 @@ returns-in-Bad c = decimal-bad _ _ _ (sym c.read_decimal.ensures ∙ c.in-Bad.is
 
 pub returns-in-Thousandths : goal.returns-in-Thousandths
 returns-in-Thousandths c =
-    let z = c.z-1 in
-    let e : to_z w32 (of_z w32 z.given.0.0) ≡ z.given.0.0 = search rules in
+    let told = c.in-Thousandths in
+    let e : to_z w32 (of_z w32 told.z) ≡ told.z = search rules in
     rw (c.unless.ensures, to_z-of_z w32 _ c.ranges.lo, to_z-of_z w32 _ c.ranges.hi, e)
-    (decimal-value _ _ _ _ c.requires.0 c.requires.1 (sym c.read_decimal.ensures ∙ z.given.1))
+    (decimal-value _ _ _ _ c.requires.0 c.requires.1 (sym c.read_decimal.ensures ∙ told.is))

@@ -12,7 +12,7 @@ returns-in-Bad c = number-bad _ _ _ (sym c.read_number.ensures ∙ c.in-Bad.is)
 
 pub returns-in-Value : goal.returns-in-Value
 returns-in-Value c =
-    let v = c.v-1 in
-    let e : to_z w32 (of_z w32 v.given.0.0) ≡ v.given.0.0 = search rules in
+    let told = c.in-Value in
+    let e : to_z w32 (of_z w32 told.v) ≡ told.v = search rules in
     rw (c.unless.ensures, to_z-of_z w32 _ c.ranges.lo, to_z-of_z w32 _ c.ranges.hi, e)
-    (number-value _ _ _ _ c.requires.0 c.requires.1 (sym c.read_number.ensures ∙ v.given.1))
+    (number-value _ _ _ _ c.requires.0 c.requires.1 (sym c.read_number.ensures ∙ told.is))

@@ -19,7 +19,7 @@ pub returns-then-not-is_word : goal.returns-then-not-is_word
 unfolding is_word_line
 returns-then-not-is_word c =
     sym (c.loop-k.invariant.1 ∙ every-fails (fields c.args.line.now) c.loop-k.k [] is_word (omega arith)
-    (rw c.field.ensures at (sym c.is_IsWord.ensures) ∙ not-true _ c.if-not-is_word.true-raw))
+    (rw c.field.ensures at (sym c.is_word.ensures) ∙ not-true _ c.if-not-is_word.true-raw))
 
 pub loop-k-preserved : goal.loop-k-preserved
 loop-k-preserved c =
@@ -27,7 +27,7 @@ loop-k-preserved c =
       c.loop-k.invariant.0,
       c.loop-k.invariant.1
           ∙ every_goes_on (fields s) c.loop-k.k [] is_word (omega arith)
-          (rw c.field.ensures at (sym c.is_IsWord.ensures) ∙ not-false _ c.if-not-is_word.false-raw),
+          (rw c.field.ensures at (sym c.is_word.ensures) ∙ not-false _ c.if-not-is_word.false-raw),
     )
 
 pub returns : goal.returns
