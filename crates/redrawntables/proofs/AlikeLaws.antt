@@ -43,16 +43,18 @@ module _ {A : Type 0} {R : A → A → Type 0} where
   pub along-take : {l k : List A} (n : ℕ) → Along R l k → Along R (take n l) (take n k)
   along-take zero r = done
   along-take (suc n) done = done
-  along-take (suc n) (more x r) = more x (along-take n r)
+  along-take (suc n) (more {x = x'} {y = y} {l = l} {k = k} x r) = more x (along-take {l = l} n r)
 
   -- an element of the second comes from one of the first
   along-from : {l k : List A} {y : A} → Along R l k → y ∈ k → (x : A) × (x ∈ l) × R x y
   along-from (more {x = x} {y = y} p r) (here e) = (x, here refl, rw e p)
+  along-from {y = y} done m = elim m [ ]
   along-from (more p r) (there m) = let f = along-from r m in (f.0, there f.1, f.2)
 
   -- and one of the first has one in the second
   pub along-to : {l k : List A} {x : A} → Along R l k → x ∈ l → (y : A) × (y ∈ k) × R x y
   along-to (more {x = x} {y = y} p r) (here e) = (y, here refl, rw e p)
+  along-to done m = elim m [ ]
   along-to (more p r) (there m) = let f = along-to r m in (f.0, there f.1, f.2)
 
 -- ---- gates that are alike

@@ -10,7 +10,7 @@ use Rattle.plans.specs.Words.{word, number}
 use Rattle.plans.specs.Bits.{with_bit}
 use Rattle.plans.specs.Form.{kind_at, region_at, length_at, body_at, step_count}
 use Rattle.plans.proofs.IndexLaws.{first-same}
-use Rattle.gates.specs.Gate.{Name, Operand, Shape, leaf, and-of, or-of, not_of, Region}
+use Rattle.gates.specs.Gate.{Name, Operand, Shape, leaf, and_of, or_of, not_of, Region}
 use Rattle.tables.specs.Table.{no_region, nth_region, other_name, number_of, parent_names, operand_names, references}
 use Rattle.tables.specs.Steps.{is_written, ready, waiting, next_region, order_from, order, shape_kind, reference_word, body_words, parent_word, step_words, steps_words, plan_words}
 use Rattle.tables.proofs.OrderLaws.{Orderly, order-length}
@@ -75,8 +75,8 @@ module _ {rs ss : List Region} (a : Along RegionAlike rs ss) where
 
   own_body : (s : Shape) → body_words ss s ≡ body_words rs s
   own_body (leaf l) = refl
-  own_body (and-of os) = ap (λ f. map f os) (everywhere reference-same)
-  own_body (or-of os) = ap (λ f. map f os) (everywhere reference-same)
+  own_body (and_of os) = ap (λ f. map f os) (everywhere reference-same)
+  own_body (or_of os) = ap (λ f. map f os) (everywhere reference-same)
   own_body (not_of o) = ap (λ (w : ℤ). w ∷ []) (reference-same o)
 
   body-redrawn : {s u : Shape} → ShapeRedrawn s u → BodyRedrawn (shape_kind s) (body_words rs s) (body_words ss u)

@@ -11,7 +11,7 @@ use native.Mathlib.Omega.{arith}
 use lib.ListN.{length}
 use Rattle.text.specs.Bytes.{same, every}
 use Rattle.text.proofs.BytesLaws.{same_refl}
-use Rattle.gates.specs.Gate.{Name, Event, Operand, Shape, leaf, and-of, or-of, not_of, Region}
+use Rattle.gates.specs.Gate.{Name, Event, Operand, Shape, leaf, and_of, or_of, not_of, Region}
 use Rattle.tables.specs.Table.{◌∈◌, some_of, nth_region, names, number_of, parent_names, operand_names, references}
 use Rattle.tables.specs.Further.Rules.{Distinct}
 use Rattle.tables.specs.Members.{in_operand, in_shape, in_parent, belongs, rounds}
@@ -33,8 +33,8 @@ module _ (e : Event) (m m' : Name → Bool) where
 
   same_shape : (s : Shape) → ((n : Name) → n ∈ operand_names s → m n ≡ m' n) → in_shape m e s ≡ in_shape m' e s
   same_shape (leaf l) h = refl
-  same_shape (and-of os) h = same-every os h
-  same_shape (or-of os) h = same_some os h
+  same_shape (and_of os) h = same-every os h
+  same_shape (or_of os) h = same_some os h
   same_shape (not_of o) h = rw (h o.name (here refl))
 
   same-parent : (p : Option Name) → ((n : Name) → n ∈ parent_names p → m n ≡ m' n) → in_parent m p ≡ in_parent m' p

@@ -24,7 +24,7 @@ use Rattle.counter.specs.Outlines.{shape_on, step_on, outline_from, outline_of}
 use Rattle.counter.specs.Judging.{taken}
 use Rattle.text.specs.Bytes.{every}
 use Rattle.text.proofs.TestLaws.{true≢false, passed_or_failed}
-use Rattle.gates.specs.Gate.{Name, Event, Operand, Shape, leaf, and-of, or-of, not_of, Region}
+use Rattle.gates.specs.Gate.{Name, Event, Operand, Shape, leaf, and_of, or_of, not_of, Region}
 use Rattle.gates.proofs.GoodGate.{GoodShape}
 use Rattle.tables.specs.Table.{◌∈◌, some_of, nth_region, number_of, parent_names, operand_names, references}
 use Rattle.tables.specs.Members.{in_operand, in_shape, in_parent}
@@ -130,10 +130,10 @@ module _ (rs : List Region) (ok : Orderly rs) (n : ℕ) (good : (r : Region) →
     shape-right : (s : Shape) → GoodShape n s → ((k : Name) → k ∈ operand_names s → has_bit bits (number_of rs k) ≡ m k)
         → shape_in (shape_kind s) e bits (body_words rs s) ≡ in_shape m e s
     shape-right (leaf l) g h = g.faithful e long take_in bits
-    shape-right (and-of os) g h =
+    shape-right (and_of os) g h =
         ap (λ (k : ℕ). all (operand_in bits (map (reference_word rs) os)) k) (length-map os (reference_word rs))
         ∙ all-every no_operand (operand_in bits (map (reference_word rs) os)) (in_operand m) os (operand_right os h)
-    shape-right (or-of os) g h =
+    shape-right (or_of os) g h =
         ap (λ (k : ℕ). any (operand_in bits (map (reference_word rs) os)) k) (length-map os (reference_word rs))
         ∙ any_some no_operand (operand_in bits (map (reference_word rs) os)) (in_operand m) os (operand_right os h)
     shape-right (not_of o) g h = ap not (operand_right (o ∷ []) h 0 (omega arith))
@@ -145,8 +145,8 @@ module _ (rs : List Region) (ok : Orderly rs) (n : ℕ) (good : (r : Region) →
 
   shape_on_lem : (s : Shape) → GoodShape n s → shape_on (shape_kind s) e (body_words rs s) ≡ on_shape e s
   shape_on_lem (leaf l) g = g.outline_faithful e
-  shape_on_lem (and-of os) g = refl
-  shape_on_lem (or-of os) g = refl
+  shape_on_lem (and_of os) g = refl
+  shape_on_lem (or_of os) g = refl
   shape_on_lem (not_of o) g = refl
 
   -- ---- the bits of what is written: region r is as the equations say of its name, and for the outline its own shape too

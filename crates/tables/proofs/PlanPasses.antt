@@ -21,7 +21,7 @@ use Rattle.plans.specs.Inner.Reader.{head_run, body_run, step_form, steps_form, 
 use Rattle.plans.specs.declared.form.Stepped.{Stepped}
 use Rattle.plans.specs.declared.form.Stepped.TheVariants.{Good, Bad}
 use Rattle.plans.proofs.IndexLaws.{first-none}
-use Rattle.gates.specs.Gate.{Name, Operand, Shape, leaf, and-of, or-of, not_of, Region}
+use Rattle.gates.specs.Gate.{Name, Operand, Shape, leaf, and_of, or_of, not_of, Region}
 use Rattle.gates.proofs.GoodGate.{GoodShape}
 use Rattle.tables.specs.Table.{◌∈◌, nth_region, number_of, parent_names, operand_names, references}
 use Rattle.tables.specs.Steps.{is_written, shape_kind, reference_word, body_words, parent_word, step_words, steps_words, order, plan_words}
@@ -55,8 +55,8 @@ module _ (rs : List Region) (ok : Orderly rs) (n : ℕ) (good : (r : Region) →
   shape-length : (s : Shape) → GoodShape n s → length_good (shape_kind s) (length (body_words rs s)) ≡ true
   unfolding spans
   shape-length (leaf l) g = g.length_good_lem
-  shape-length (and-of os) g = rw (length-map os (reference_word rs), le-leb 2 (length os) g.0, le-leb (length os) 63 g.1)
-  shape-length (or-of os) g = rw (length-map os (reference_word rs), le-leb 2 (length os) g.0, le-leb (length os) 63 g.1)
+  shape-length (and_of os) g = rw (length-map os (reference_word rs), le-leb 2 (length os) g.0, le-leb (length os) 63 g.1)
+  shape-length (or_of os) g = rw (length-map os (reference_word rs), le-leb 2 (length os) g.0, le-leb (length os) 63 g.1)
   shape-length (not_of o) g = refl
 
   module _ (set r : ℕ) (h : r < length rs) (new : has_bit set r ≡ false)
@@ -87,8 +87,8 @@ module _ (rs : List Region) (ok : Orderly rs) (n : ℕ) (good : (r : Region) →
     body-good : (s : Shape) → GoodShape n s → ((m : Name) → m ∈ operand_names s → m ∈ references x)
         → (i : ℕ) → i < length (body_words rs s) → body_word (shape_kind s) n (length rs) set (body_words rs s) i ≡ true
     body-good (leaf l) g j i b = g.words_good (length rs) set i b
-    body-good (and-of os) g j i b = operands-good os j i b
-    body-good (or-of os) g j i b = operands-good os j i b
+    body-good (and_of os) g j i b = operands-good os j i b
+    body-good (or_of os) g j i b = operands-good os j i b
     body-good (not_of o) g j i b = operands-good (o ∷ []) j i b
 
     module _ (before rest : List ℤ) where

@@ -12,7 +12,7 @@ use Rattle.text.proofs.TextTheorems.{unlines-lines, lines-without, lines-unlines
 use Rattle.text.proofs.TestLaws.{true≢false, and_left}
 use Rattle.gates.specs.Rules.{no_refusal}
 use Rattle.gates.specs.Refusal.{line_refusal}
-use Rattle.gates.specs.Gate.{Name, Shape, leaf, and-of, or-of, not_of, Region, regions}
+use Rattle.gates.specs.Gate.{Name, Shape, leaf, and_of, or_of, not_of, Region, regions}
 use Rattle.gates.specs.Encoding.{leaf_words}
 use Rattle.tables.specs.Table.{◌∈◌, no_region, nth_region, sum_of}
 use Rattle.tables.specs.Head.{head_fields, dimensions, head_good, gate_lines, gates, reordered}
@@ -29,8 +29,8 @@ use Rattle.tables.proofs.Acceptance.{Accepted}
 
 abbrev pub body_size : Shape → ℕ
 body_size (leaf l) = length (leaf_words l)
-body_size (and-of os) = length os
-body_size (or-of os) = length os
+body_size (and_of os) = length os
+body_size (or_of os) = length os
 body_size (not_of o) = 1
 
 abbrev pub step_size : Region → ℕ
@@ -38,8 +38,8 @@ step_size r = 4 + body_size r.shape
 
 body-size : (rs : List Region) (s : Shape) → length (body_words rs s) ≡ body_size s
 body-size rs (leaf l) = refl
-body-size rs (and-of os) = length-map os _
-body-size rs (or-of os) = length-map os _
+body-size rs (and_of os) = length-map os _
+body-size rs (or_of os) = length-map os _
 body-size rs (not_of o) = refl
 
 step-size : (rs : List Region) (r : ℕ) → length (step_words rs r) ≡ step_size (nth_region rs r)

@@ -4,7 +4,7 @@ use Rattle.std.specs.Prelude.{Bool, true, false, not, ◌&&◌, cond, List, ℕ,
 use Rattle.std.proofs.Math.Option.{Option, none, some}
 use Rattle.counter.specs.Judging.{taken}
 use Rattle.text.specs.Bytes.{same, every}
-use Rattle.gates.specs.Gate.{Name, Event, Operand, Shape, leaf, and-of, or-of, not_of, Gate, Region, regions}
+use Rattle.gates.specs.Gate.{Name, Event, Operand, Shape, leaf, and_of, or_of, not_of, Gate, Region, regions}
 use Rattle.gates.specs.Meaning.{holds}
 use Rattle.tables.specs.Table.{some_of, names}
 
@@ -17,8 +17,8 @@ module _ (m : Name → Bool) where
 
   abbrev pub in_shape : Event → Shape → Bool
   in_shape e (leaf l) = holds l e
-  in_shape e (and-of os) = every in_operand os
-  in_shape e (or-of os) = some_of in_operand os
+  in_shape e (and_of os) = every in_operand os
+  in_shape e (or_of os) = some_of in_operand os
   in_shape e (not_of o) = not (in_operand o)
 
   abbrev pub in_parent : Option Name → Bool

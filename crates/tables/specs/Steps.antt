@@ -7,7 +7,7 @@ use Rattle.plans.specs.Kinds.{kind_number}
 use Rattle.plans.specs.declared.Kind.{Kind}
 use Rattle.plans.specs.declared.Kind.TheVariants.{And, Or, Not}
 use Rattle.text.specs.Bytes.{every}
-use Rattle.gates.specs.Gate.{Name, Operand, Shape, leaf, and-of, or-of, not_of, Region}
+use Rattle.gates.specs.Gate.{Name, Operand, Shape, leaf, and_of, or_of, not_of, Region}
 use Rattle.gates.specs.Encoding.{leaf_kind, leaf_words}
 use Rattle.tables.specs.Table.{nth_region, number_of, references}
 
@@ -41,8 +41,8 @@ order rs = order_from (length rs) rs 0
 
 abbrev pub shape_kind : Shape → Kind
 shape_kind (leaf l) = leaf_kind l
-shape_kind (and-of os) = And
-shape_kind (or-of os) = Or
+shape_kind (and_of os) = And
+shape_kind (or_of os) = Or
 shape_kind (not_of o) = Not
 
 -- 2 × region, plus 1 for `!`
@@ -51,8 +51,8 @@ reference_word rs o = pos (2 * number_of rs o.name + cond o.complement 1 0)
 
 abbrev pub body_words : List Region → Shape → List ℤ
 body_words rs (leaf l) = leaf_words l
-body_words rs (and-of os) = map (reference_word rs) os
-body_words rs (or-of os) = map (reference_word rs) os
+body_words rs (and_of os) = map (reference_word rs) os
+body_words rs (or_of os) = map (reference_word rs) os
 body_words rs (not_of o) = reference_word rs o ∷ []
 
 -- −1 for none

@@ -4,7 +4,7 @@ use Rattle.std.proofs.Math.Option.{Option, none, some}
 use mathlib.Core.List.{List, [], ◌∷◌, ◌++◌, map, Memᴰ}
 use Rattle.plans.specs.Indices.{all, first_bad}
 use Rattle.text.specs.Bytes.{same}
-use Rattle.gates.specs.Gate.{Name, Operand, Shape, leaf, and-of, or-of, not_of, Quadrant, Body, one, quad, Gate, Region}
+use Rattle.gates.specs.Gate.{Name, Operand, Shape, leaf, and_of, or_of, not_of, Quadrant, Body, one, quad, Gate, Region}
 
 infix 40 ◌∈◌
 abbrev pub ◌∈◌ : {A : Type 0} → A → List A → Type 0
@@ -29,7 +29,7 @@ unfoldable pub nth_gate : List Gate → ℕ → Gate
 nth_gate t i = get_or t i no_gate
 
 abbrev pub no_region : Region
-no_region = record { name = []; parent = none; shape = and-of [] }
+no_region = record { name = []; parent = none; shape = and_of [] }
 
 unfoldable pub nth_region : List Region → ℕ → Region
 nth_region rs r = get_or rs r no_region
@@ -83,8 +83,8 @@ parent_names (some n) = n ∷ []
 
 abbrev pub operand_names : Shape → List Name
 operand_names (leaf l) = []
-operand_names (and-of os) = map (λ (o : Operand). o.name) os
-operand_names (or-of os) = map (λ (o : Operand). o.name) os
+operand_names (and_of os) = map (λ (o : Operand). o.name) os
+operand_names (or_of os) = map (λ (o : Operand). o.name) os
 operand_names (not_of o) = o.name ∷ []
 
 abbrev pub body_references : Body → List Name

@@ -16,7 +16,7 @@ use Rattle.gates.specs.Tiling.{interval}
 use Rattle.gatelines.proofs.tiling.interval.Given as goal
 
 abbrev pub invariant-loop-j : goal.invariant-loop-j
-invariant-loop-j l = (l.j ≤ l.n) × (l.k ≡ how_many (λ i. le_z (divider_value (fields l.line) l.t i) (to_z w32 l.x)) l.j)
+invariant-loop-j l = (l.j ≤ l.n) × (l.k ≡ how_many (λ i. le_z (divider_value (fields l.line) l.t i) l.x) l.j)
 
 abbrev pub decreases-loop-j : goal.decreases-loop-j
 decreases-loop-j l = l.n - l.j
