@@ -36,7 +36,7 @@ returns-then-shares_name c =
     let starts = args.starts.at in
     let text = args.text.now in
     let s = shares_at text starts i in
-    sym (repeats_rest text starts i (own_read text starts i line_at_lem.ensures own-different.ensures) (not-false _ if1.false)
+    sym (repeats_rest text starts i (own_read text starts i line_at_lem.ensures own-different.ensures) if1.false
     ∙ any_stop s i head.j loop-test.true (sym (shares_read text starts i line_at_lem.ensures head.j line-at2.ensures
     c.shares_name.ensures) ∙ c.if-shares_name.true))
 
@@ -68,5 +68,5 @@ returns c =
     let starts = args.starts.at in
     let text = args.text.now in
     let e : i ≡ head.j = omega arith in
-    sym (repeats_rest text starts i (own_read text starts i line_at_lem.ensures own-different.ensures) (not-false _ if1.false)
+    sym (repeats_rest text starts i (own_read text starts i line_at_lem.ensures own-different.ensures) if1.false
     ∙ (ap (any (shares_at text starts i)) e ∙ head.invariant.1))
