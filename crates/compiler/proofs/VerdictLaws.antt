@@ -26,6 +26,10 @@ use Rattle.tablecheck.proofs.CursorLaws.{table-verdict}
 use Rattle.tablecheck.proofs.LineNumberLaws.{line-listed}
 use Rattle.compiler.specs.Inner.Unrefused.{Unrefused}
 
+-- the two clauses that tell what a table's verdict is
+pub both : {A B : Type 0} → A × B → record { verdict : A; accepted : B }
+both p = record { verdict = p.0; accepted = p.1 }
+
 -- ---- the number of a refusal is never 0
 
 named-cond : (b : Bool) (v w : Verdict) → 1 ≤ v.number → 1 ≤ w.number → 1 ≤ (cond b v w).number

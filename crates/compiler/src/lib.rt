@@ -168,8 +168,8 @@ fn put_plan(plan: &mut [i32], text: &[u8], starts: Starts, n: usize) -> usize
 // 17 and 18 of a table to which none of refusals 1 to 16 applies: its plan is measured by writing over next to nothing, and no slice is needed.
 fn measured(table: &[u8], room: usize) -> Acceptance
     requires { Unrefused table.now }
-    ensures result_value { acceptance result ≡ table_verdict room table.now }
-    ensures result_value_2 { accepts result ≡ eqb (table_verdict room table.now).number 0 }
+    ensures verdict { acceptance result ≡ table_verdict room table.now }
+    ensures accepted { accepts result ≡ eqb (table_verdict room table.now).number 0 }
 {
     let starts = starts_of(table);
     let lines = starts.lines;
@@ -187,8 +187,8 @@ fn measured(table: &[u8], room: usize) -> Acceptance
 
 // The refusal of 1 to 18 of a table for a slice of that many words, if there is one. Nothing is written.
 pub fn table_verdict(table: &[u8], room: usize) -> Acceptance
-    ensures result_value { acceptance result ≡ table_verdict room table.now }
-    ensures result_value_2 { accepts result ≡ eqb (table_verdict room table.now).number 0 }
+    ensures verdict { acceptance result ≡ table_verdict room table.now }
+    ensures accepted { accepts result ≡ eqb (table_verdict room table.now).number 0 }
 {
     let answer = check_table(table);
     match answer {

@@ -7,10 +7,10 @@ use Rattle.compiler.proofs.compile.Goals as goal
 
 pub compile_accepted-requires : goal.compile_accepted-requires
 compile_accepted-requires c =
-    sym c.table_verdict-verdict.ensures.result_value ∙ ap acceptance c.in-Accepted.is
+    sym c.table_verdict-verdict.ensures.verdict ∙ ap acceptance c.in-Accepted.is
 
 pub returns-in-Refused : goal.returns-in-Refused
 returns-in-Refused c =
     let e = sym c.in-Refused.is in
     let v = c.table_verdict-verdict.ensures in
-    compile_refused c.args.table.now c.args.plan.now (ap acceptance e ∙ v.0, ap accepts e ∙ v.1)
+    compile_refused c.args.table.now c.args.plan.now (ap acceptance e ∙ v.verdict, ap accepts e ∙ v.accepted)

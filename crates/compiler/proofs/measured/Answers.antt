@@ -3,7 +3,7 @@ use borrow.Author.Rules.{rules}
 use native.Mathlib.Omega.{arith}
 use Rattle.resolve.proofs.StartLaws.{places, line-count}
 use Rattle.compiler.proofs.SettledLaws.{settled, words-read}
-use Rattle.compiler.proofs.VerdictLaws.{refused_17, refused_18, accepted}
+use Rattle.compiler.proofs.VerdictLaws.{both, refused_17, refused_18, accepted}
 use Rattle.compiler.proofs.measured.Goals as goal
 
 pub put_plan-words-requires : goal.put_plan-words-requires
@@ -15,16 +15,16 @@ pub returns-then-words-gt4096 : goal.returns-then-words-gt4096
 returns-then-words-gt4096 c =
     let s = c.starts_of-starts.ensures in
     let w = words-read _ c.requires _ (places _ s) (line-count _ s) c.minus-n.ensures c.put_plan-words.ensures.0 in
-    refused_17 c.args.table.now c.args.room c.requires (omega (arith, c.if-words-gt4096.true, w))
+    both (refused_17 c.args.table.now c.args.room c.requires (omega (arith, c.if-words-gt4096.true, w)))
 
 pub returns-then-room-words : goal.returns-then-room-words
 returns-then-room-words c =
     let s = c.starts_of-starts.ensures in
     let w = words-read _ c.requires _ (places _ s) (line-count _ s) c.minus-n.ensures c.put_plan-words.ensures.0 in
-    refused_18 c.args.table.now c.args.room c.requires (omega (arith, c.if-words-gt4096.false, w)) (omega (arith, c.if-room-words.true, w))
+    both (refused_18 c.args.table.now c.args.room c.requires (omega (arith, c.if-words-gt4096.false, w)) (omega (arith, c.if-room-words.true, w)))
 
 pub returns : goal.returns
 returns c =
     let s = c.starts_of-starts.ensures in
     let w = words-read _ c.requires _ (places _ s) (line-count _ s) c.minus-n.ensures c.put_plan-words.ensures.0 in
-    accepted c.args.table.now c.args.room c.requires (omega (arith, c.if-words-gt4096.false, w)) (omega (arith, c.if-room-words.false, w))
+    both (accepted c.args.table.now c.args.room c.requires (omega (arith, c.if-words-gt4096.false, w)) (omega (arith, c.if-room-words.false, w)))

@@ -8,7 +8,7 @@ use Rattle.compiler.proofs.put_plan.Goals as goal
 pub put_steps-requires : goal.put_steps-requires
 put_steps-requires c =
     let region-total = c.region_total-total in
-    (c.requires, total_is _ _ _ c.requires.few region-total.ensures)
+    record { settled = c.requires; total_value = total_is _ _ _ c.requires.few region-total.ensures }
 
 pub overflow_add-result : goal.overflow_add-result
 overflow_add-result c = let p = c.put_steps.ensures.0 in omega arith

@@ -43,7 +43,7 @@ returns-then-total-r c =
 pub put_step_from-words-requires : goal.put_step_from-words-requires
 put_step_from-words-requires c =
     let t = c.requires.total_value in
-    (c.requires.settled, omega arith)
+    record { settled = c.requires.settled; r_in_bounds = omega arith }
 
 pub overflow_add-at : goal.overflow_add-at
 overflow_add-at c =
@@ -56,9 +56,9 @@ overflow_add-at c =
     let fewer = head.invariant.few in
     let args = c.args in
     let pre = c.requires in
-    let total = pre.1 in
-    let few = pre.0.few in
-    let short = step-short args.text.now args.starts.at args.n next_row.result pre.0 (omega arith) in
+    let total = pre.total_value in
+    let few = pre.settled.few in
+    let short = step-short args.text.now args.starts.at args.n next_row.result pre.settled (omega arith) in
     omega arith
 
 pub loop-k-preserved : goal.loop-k-preserved

@@ -6,4 +6,4 @@ use Rattle.runreport.proofs.reading.is_word.Goals as goal
 pub returns : goal.returns
 returns c =
     word-tested c.args.s.now c.is_number.ensures c.negative.ensures c.unsigned.ensures
-    c.magnitude.ensures c.fits2.ensures
+    c.magnitude.ensures c.fits.ensures

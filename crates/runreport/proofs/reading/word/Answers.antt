@@ -24,8 +24,8 @@ returns-else-b c =
 
 pub returns-then-fits : goal.returns-then-fits
 returns-then-fits c =
-    sym (fitted-least c.args.b c.args.n c.if-n-lt2147483648.false (sym c.fits2.ensures ∙ c.if-fits.true))
+    sym (fitted-least c.args.b c.args.n c.if-n-lt2147483648.false (sym c.fits.ensures ∙ c.if-fits.true))
 
 pub returns-else-fits : goal.returns-else-fits
 returns-else-fits c =
-    sym (fitted_none c.args.b c.args.n (sym c.fits2.ensures ∙ c.if-fits.false))
+    sym (fitted_none c.args.b c.args.n (sym c.fits.ensures ∙ c.if-fits.false))
