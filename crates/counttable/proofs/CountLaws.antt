@@ -41,6 +41,10 @@ use Rattle.counttable.specs.declared.Outcome.TheVariants.{Counted, TableRefused,
 use Rattle.counttable.specs.declared.TableCount.{TableCount}
 use Rattle.counttable.specs.Inner.Ragged.{ragged, wrong, list_refused}
 
+-- the two clauses of `count_table`
+pub told : {A B : Type 0} → A × B → record { plan_after : A; keeps_demand3 : B }
+told p = record { plan_after = p.0; keeps_demand3 = p.1 }
+
 -- tests of which none is passed
 or_fails : (a b : Bool) → (a || b) ≡ false → (a ≡ false) × (b ≡ false)
 or_fails true b e = absurd (true≢false e)

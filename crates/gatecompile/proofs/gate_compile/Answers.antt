@@ -10,10 +10,10 @@ use Rattle.gatecompile.proofs.gate_compile.Goals as goal
 pub returns : goal.returns
 returns c =
     let o = c.args.out.now in
-    let plan = c.compile-c.new.1.0 in
+    let plan = c.compile-c.new.plan in
     let answer = c.compile-c.result in
-    let e = c.compile-c.ensures in (
-      rw (c.number.ensures, c.place.ensures, c.words.ensures, c.regions.ensures)
-          (ap (sets o 0) (row-alone answer plan ∙ ap compile_row e)),
-      slice_is answer plan ∙ ap (λ (x : Compiling). x.slice) e,
-    )
+    let e = c.compile-c.ensures in record {
+      row = rw (c.number.ensures, c.place.ensures, c.words.ensures, c.regions.ensures)
+          (ap (sets o 0) (row-alone answer plan ∙ ap compile_row e));
+      slice = slice_is answer plan ∙ ap (λ (x : Compiling). x.slice) e;
+    }
