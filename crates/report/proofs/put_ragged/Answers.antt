@@ -8,13 +8,13 @@ returns-in-Accepted c =
     let args = c.args in
     let a = c.table_verdict-verdict.result in
     let v = c.table_verdict-verdict.ensures in
-    rw (ragged_prints args.table.now args.columns.now args.line a v.0 v.1 c.in-Accepted.is) c.put_bad_line.ensures
+    rw (ragged_prints args.table.now args.columns.now args.line a v.verdict v.accepted c.in-Accepted.is) c.put_bad_line.ensures
 
 pub returns-in-Refused : goal.returns-in-Refused
 returns-in-Refused c =
     let args = c.args in
     let a = c.table_verdict-verdict.result in
     let v = c.table_verdict-verdict.ensures in
-    rw (table-first args.table.now args.columns.now args.line a v.0 v.1 c.in-Refused.is
+    rw (table-first args.table.now args.columns.now args.line a v.verdict v.accepted c.in-Refused.is
     _ _ c.number_of.ensures c.place_of.ensures)
     c.put_refused.ensures

@@ -43,4 +43,7 @@ returns c =
     let rs = regions (gates_at a.text.now a.starts.at a.n) in
     let z : c.loop-r.r ≡ a.m = omega arith in
     let w = rw z at c.loop-r.invariant.1 in
-    (w, omega (arith, c.requires.0, lines-short rs a.tally.counts a.out.now a.m c.loop-r.at w a.m c.requires.2 (omega arith)))
+    record {
+      writes = w;
+      upper_bound = omega (arith, c.requires.0, lines-short rs a.tally.counts a.out.now a.m c.loop-r.at w a.m c.requires.2 (omega arith));
+    }

@@ -41,4 +41,4 @@ returns c =
     let a = number-accepted 4096 t c.requires.0 in
     let g = gates_are 4096 t a starts-of.result.at (places t starts-of.ensures) starts-of.result.lines (line-count t starts-of.ensures) in
     let r = rw g at c.put_regions-a.ensures in
-    tally-written (regions (gates t)) args.tally args.out.now args.m c.requires.1 r.0 c.put_taken.ensures c.put_spoilt.ensures
+    tally-written (regions (gates t)) args.tally args.out.now args.m c.requires.1 r.writes c.put_taken.ensures c.put_spoilt.ensures

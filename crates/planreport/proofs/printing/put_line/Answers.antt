@@ -44,4 +44,7 @@ pub returns : goal.returns
 returns c =
     let words = c.args.words.now in
     let done = rw (ended-none words c.loop-i.i c.loop-i-test.false) at c.loop-i.invariant.2 in
-    (rw (line-ended words c.requires.0) (progress_all _ _ done), omega (arith, c.loop-i.invariant.1))
+    record {
+      writes = rw (line-ended words c.requires.0) (progress_all _ _ done);
+      upper_bound = omega (arith, c.loop-i.invariant.1);
+    }

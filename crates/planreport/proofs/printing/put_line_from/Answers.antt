@@ -5,11 +5,11 @@ use Rattle.planreport.proofs.printing.put_line_from.Goals as goal
 
 pub returns : goal.returns
 returns c =
-    (
-      (
+    record {
+      writes_from = (
         c.put_line.ensures.writes.0,
         over-lent _ _ c.lesser-b.result c.lesser-b.ensures _ _
             c.put_line.ensures.writes.1,
-      ),
-      c.put_line.ensures.upper_bound,
-    )
+      );
+      upper_bound = c.put_line.ensures.upper_bound;
+    }

@@ -44,4 +44,7 @@ returns c =
     let a = c.args in
     let z : c.loop-j.j ≡ a.k = omega arith in
     let w = rw z at c.loop-j.invariant.1 in
-    (w, omega (arith, w.0, column-length a.columns.now a.r a.k))
+    record {
+      writes_from = w;
+      upper_bound = omega (arith, w.0, column-length a.columns.now a.r a.k);
+    }

@@ -15,8 +15,8 @@ overflow_add-result c =
 
 pub returns : goal.returns
 returns c =
-    let a = c.args in (
-      listed-written a.at a.name.now (column_of a.columns.now a.k a.r) a.out.now a.sum c.put_bytes_from-a.ensures
-          c.put_column.ensures.writes_from c.put_field_from.ensures,
-      omega (arith, c.requires.1, c.put_bytes_from-a.ensures.0, c.put_column.ensures.upper_bound, field_short _ c.put_field_from.ensures.0),
-    )
+    let a = c.args in record {
+      writes_from = listed-written a.at a.name.now (column_of a.columns.now a.k a.r) a.out.now a.sum c.put_bytes_from-a.ensures
+          c.put_column.ensures.writes_from c.put_field_from.ensures;
+      upper_bound = omega (arith, c.requires.1, c.put_bytes_from-a.ensures.0, c.put_column.ensures.upper_bound, field_short _ c.put_field_from.ensures.0);
+    }

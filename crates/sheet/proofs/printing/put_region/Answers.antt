@@ -39,7 +39,7 @@ returns c =
     let i : c.count_by-count.result ≡ get_or a.total.counts a.r 0 = c.count_by-count.ensures ∙ count_low a.total a.r (omega (arith, c.requires.2)) in
     let w =
     region-written a.at a.name.now (column_of a.columns.now a.k a.r) a.out.now c.count_by-count.result c.put_listed-a.ensures.writes_from
-    c.count_by-count.result c.count_by.result c.put_field_from.ensures c.put_field_from-2.ensures c.put_bytes_from.ensures in (
-      rw (i, c.count_by.ensures) at w,
-      omega (arith, c.put_listed-a.ensures.upper_bound, x, y, c.put_bytes_from.ensures.0),
-    )
+    c.count_by-count.result c.count_by.result c.put_field_from.ensures c.put_field_from-2.ensures c.put_bytes_from.ensures in record {
+      writes_from = rw (i, c.count_by.ensures) at w;
+      upper_bound = omega (arith, c.put_listed-a.ensures.upper_bound, x, y, c.put_bytes_from.ensures.0);
+    }

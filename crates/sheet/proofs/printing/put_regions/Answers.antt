@@ -44,4 +44,7 @@ shape_of-out c = ap length c.loop-r.invariant.2.1 ∙ over-length _ _
 pub returns : goal.returns
 returns c =
     let z : c.loop-r.r ≡ c.args.m = omega arith in
-    (rw z at c.loop-r.invariant.2, omega (arith, c.requires.0.0, c.loop-r.invariant.1))
+    record {
+      writes = rw z at c.loop-r.invariant.2;
+      upper_bound = omega (arith, c.requires.0.0, c.loop-r.invariant.1);
+    }
