@@ -3,8 +3,8 @@
 
 ghost use Rattle.std.specs.Prelude.{◌≡◌, length};
 
-use libc::{STDIN_FILENO, STDOUT_FILENO};
 use report::report;
+use std::io::{self, Write};
 use streams::read_all;
 
 // Room for one byte more than an input may have.
@@ -14,23 +14,22 @@ fn room() -> [u8; 65537]
     [0; 65537]
 }
 
-// Writes the report of an input.
-fn print_report(input: &[u8]) {
-    let mut out = io::buffer();
-    let n = report(input, &mut out);
-    if !io::write_all(STDOUT_FILENO, &out[..n]) {
-        os::fail(b"gatecount: standard output");
-    }
+// Room for every report.
+fn report_room() -> [u8; 4096]
+    ensures { 4096 ≡ length result }
+{
+    [0; 4096]
 }
 
-fn main() {
+// Writes the report of an input.
+fn print_report<W: Write>(to: &mut W, input: &[u8]) -> io::Result<()> {
+    let mut out = report_room();
+    let n = report(input, &mut out);
+    to.write_all(&out[..n])
+}
+
+fn main(rt: HostRuntime) -> io::Result<()> {
     let mut input = room();
-    let r = read_all(STDIN_FILENO, &mut input);
-    let failed = r.failed;
-    if failed {
-        os::fail(b"gatecount: standard input");
-        return;
-    }
-    let n = r.count;
-    print_report(&input[..n]);
+    let n = read_all(&mut rt.reader(), &mut input)?;
+    print_report(&mut io::writer(&rt), &input[..n])
 }

@@ -3,8 +3,8 @@
 
 ghost use Rattle.std.specs.Prelude.{◌≡◌, length};
 
-use libc::{STDIN_FILENO, STDOUT_FILENO};
 use planreport::plan_report;
+use std::io::{self, Write};
 use streams::read_all;
 
 // Room for one byte more than an input may have.
@@ -22,22 +22,14 @@ fn text_room() -> [u8; 49152]
 }
 
 // Writes the report of an input.
-fn print_report(input: &[u8]) {
+fn print_report<W: Write>(to: &mut W, input: &[u8]) -> io::Result<()> {
     let mut out = text_room();
     let n = plan_report(input, &mut out);
-    if !io::write_all(STDOUT_FILENO, &out[..n]) {
-        os::fail(b"gateplan: standard output");
-    }
+    to.write_all(&out[..n])
 }
 
-fn main() {
+fn main(rt: HostRuntime) -> io::Result<()> {
     let mut input = room();
-    let r = read_all(STDIN_FILENO, &mut input);
-    let failed = r.failed;
-    if failed {
-        os::fail(b"gateplan: standard input");
-        return;
-    }
-    let n = r.count;
-    print_report(&input[..n]);
+    let n = read_all(&mut rt.reader(), &mut input)?;
+    print_report(&mut io::writer(&rt), &input[..n])
 }

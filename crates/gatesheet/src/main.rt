@@ -3,8 +3,8 @@
 
 ghost use Rattle.std.specs.Prelude.{◌≡◌, length};
 
-use libc::{STDIN_FILENO, STDOUT_FILENO};
 use sheet::sheet;
+use std::io::{self, Write};
 use streams::read_all;
 
 // Room for one byte more than an input may have.
@@ -22,22 +22,14 @@ fn sheet_room() -> [u8; 1300000]
 }
 
 // Writes the sheet of an input.
-fn print_sheet(input: &[u8]) {
+fn print_sheet<W: Write>(to: &mut W, input: &[u8]) -> io::Result<()> {
     let mut out = sheet_room();
     let n = sheet(input, &mut out);
-    if !io::write_all(STDOUT_FILENO, &out[..n]) {
-        os::fail(b"gatesheet: standard output");
-    }
+    to.write_all(&out[..n])
 }
 
-fn main() {
+fn main(rt: HostRuntime) -> io::Result<()> {
     let mut input = input_room();
-    let r = read_all(STDIN_FILENO, &mut input);
-    let failed = r.failed;
-    if failed {
-        os::fail(b"gatesheet: standard input");
-        return;
-    }
-    let n = r.count;
-    print_sheet(&input[..n]);
+    let n = read_all(&mut rt.reader(), &mut input)?;
+    print_sheet(&mut io::writer(&rt), &input[..n])
 }

@@ -94,14 +94,14 @@ loop-left-preserved c =
     let written = rw c.part_at-in-loop-left.ensures at c.put_line_from-at.ensures.writes_from in (
       omega (arith, c.loop-left.invariant.0, short),
       rw (step-next (plan after-number_at-m) (left after-number_at-m) (word after-number_at-m) (ends after-number_at-m) (some after-number_at-m) m) (next_end (plan after-number_at-m) (left after-number_at-m) (word after-number_at-m) (ends after-number_at-m) (some after-number_at-m)),
-      c.put_line_from-at.auto.0 ∙ c.loop-left.invariant.2,
+      c.put_line_from-at.auto.rest ∙ c.loop-left.invariant.2,
       λ d p.
           progress_more _ d _ _ (c.loop-left.invariant.3 d p) (steps-more (plan after-number_at-m) (left after-number_at-m) (word after-number_at-m) (ends after-number_at-m) (some after-number_at-m) m) written,
     )
 
 pub shape_of-out : goal.shape_of-out
 shape_of-out c =
-    c.loop-left.invariant.2 ∙ c.put_line-at.auto.0
+    c.loop-left.invariant.2 ∙ c.put_line-at.auto.rest
 
 pub returns : goal.returns
 returns c =

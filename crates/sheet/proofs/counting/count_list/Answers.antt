@@ -18,7 +18,7 @@ pub slice_bounds-count-end-2 : goal.slice_bounds-count-end-2
 slice_bounds-count-end-2 c =
     let good = c.requires.2 in
     let few = kept-few good.0 c.args.part.now c.requires.0 good.1 in
-    sym (length-take-le c.put_lines-m.result c.put_lines-m.new.0
+    sym (length-take-le c.put_lines-m.result c.put_lines-m.new.list
     (omega (arith, c.put_lines-m.ensures.0, few, c.put_lines-m.auto, c.requires.1)))
 
 pub returns : goal.returns
