@@ -10,7 +10,7 @@ use Rattle.plans.specs.Words.{word, number, on_scale, part}
 use Rattle.integers.specs.Range.{in_range}
 use Rattle.plans.specs.Bits.{has_bit, with_bit}
 use Rattle.plans.specs.Refusals.{Verdict}
-use Rattle.plans.specs.Symmetric.{Symmetric, symmetric}
+use Rattle.plans.specs.Symmetric.{symmetric}
 use Rattle.plans.specs.Form.{first, earlier, free, parent_good, differs, dimension_good, entry, matrix_good, matrix3_good, matrix3_word, ellipsoid_word, kind_at, region_at, length_at, body_at, next_at, head_word_for, steps_word_for, steps_end, width, step_count, word_good_for, plan_end, lowest_bad_for, form_for, check_for, check_of}
 use Rattle.plans.specs.Kinds.{kind_of, spans}
 use Rattle.counter.specs.Ellipsoid.{in_ellipsoid, ellipsoid_position}

@@ -1,13 +1,13 @@
 -- Floats that know less than those of today: what they refuse they never count, and what passes there they count as today.
-use mathlib.Core.Path.{◌≡◌, refl}
+use mathlib.Core.Path.{◌≡◌}
 use mathlib.Core.Bool.{true, false}
 use mathlib.Core.List.{List}
 use lib.IntN.{ℤ}
 use Rattle.plans.specs.Refusals.{passed, refused}
-use Rattle.plans.specs.Form.{Float, today, check_for, check_of}
+use Rattle.plans.specs.Form.{Float, check_for, check_of}
 use Rattle.plans.specs.NewWords.{lowest_new, holds_new}
 use Rattle.plans.proofs.FloatTheorems.{KnowsLess, passes-today, new-refused, old-passes}
-use Rattle.counter.specs.Counting.{no_tally, count_passed, count_for, count_of}
+use Rattle.counter.specs.Counting.{no_tally, count_for, count_of}
 
 module _ (f : Float) (less : KnowsLess f) (p events : List ℤ) where
   -- a plan that passes there

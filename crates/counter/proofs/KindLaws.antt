@@ -22,7 +22,7 @@ use Rattle.plans.specs.declared.Kind.TheVariants as K
 use Rattle.plans.proofs.IndexLaws.{clash, and_both}
 use Rattle.plans.proofs.WordLaws.{word-there}
 use Rattle.plans.proofs.KindLaws.{by_both, length_range, earlier-low}
-use Rattle.counter.specs.Inner.Ranges.{OnScale, Vertices, Fields, SolidFields}
+use Rattle.counter.specs.Inner.Ranges.{OnScale, Vertices, Fields}
 use Rattle.counter.specs.Members.{value_in, box_in, polygon_in, ellipse_in, decimal_ellipse_in, ellipsoid_in, operand_in, shape_in}
 use Rattle.counter.specs.Positions.{not_outside, is_on_outline}
 use Rattle.counter.specs.Outlines.{polygon_on, ellipse_on, decimal_ellipse_on, ellipsoid_on, shape_on}

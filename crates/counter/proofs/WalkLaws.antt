@@ -18,7 +18,7 @@ use Rattle.counter.specs.Polygon.{Edge, edge, side, between, on_edge, crossing, 
 use Rattle.counter.specs.Positions.{polygon_position}
 use Rattle.counter.specs.Walk.{over, walked, past, found}
 use Rattle.counter.specs.Inner.Ranges.{OnScale}
-use Rattle.counter.specs.Inner.Walks.{SeenFrom, Near, PastEdge, one, one_of, turn_for, vertex_before, beyond, four_beyond, Apart}
+use Rattle.counter.specs.Inner.Walks.{SeenFrom, Near, PastEdge, one_of, turn_for, vertex_before, beyond, four_beyond, Apart}
 use Rattle.counter.specs.declared.Position.TheVariants.{Outside, Inside, OnOutline}
 use Rattle.counter.specs.declared.polygon.Offset.{Offset}
 use Rattle.counter.specs.declared.polygon.Walked.{Walked}

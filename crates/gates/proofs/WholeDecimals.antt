@@ -7,7 +7,6 @@ use borrow.Author.Tests.{eqb-true}
 use lib.IntN.{ℤ, pos, negsuc, ◌*ℤ◌}
 use lib.ListN.{length}
 use Rattle.decimals.proofs.DecimalTheorems.{with_zeros, zeros-whole}
-use Rattle.decimals.specs.Decimals.{thousandths}
 use Rattle.counter.specs.Positions.{not_outside, is_on_outline, ellipse_position}
 use Rattle.counter.specs.DecimalEllipse.{decimal_ellipse_position}
 use Rattle.counter.proofs.PositionLaws.{ellipse_in_lem, decimal_in}

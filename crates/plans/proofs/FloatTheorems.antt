@@ -8,18 +8,18 @@ use native.Mathlib.Omega.{arith}
 use native.Mathlib.Decide.{dec_lt, ℕ_discrete}
 use lib.IntN.{ℤ}
 use lib.ListN.{length}
-use lib.Dec.{ltb, leb, eqb}
+use lib.Dec.{eqb}
 use borrow.Author.Tests.{lt-ltb, le-ltb, eq-eqb, ne_eqb, eqb-true, ltb-true, not-true, not-false}
 use Rattle.plans.specs.Bits.{with_bit}
-use Rattle.plans.specs.Refusals.{Verdict, passed, refused}
+use Rattle.plans.specs.Refusals.{passed, refused}
 use Rattle.plans.specs.Kinds.{kind_number, known, spans}
-use Rattle.plans.specs.Form.{Float, today, first, kind_at, region_at, length_at, body_at, next_at, body_word, head_word_for, head_word, steps_word_for, steps_word, steps_end, width, step_count, word_good_for, word_good, plan_end, lowest_bad_for, form_for, check_for, check_of}
+use Rattle.plans.specs.Form.{Float, today, first, kind_at, region_at, length_at, next_at, head_word_for, head_word, steps_word_for, steps_word, width, step_count, word_good_for, word_good, plan_end, lowest_bad_for, form_for, check_for, check_of}
 use Rattle.plans.specs.NewWords.{new_step_word, new_word, old_word, lowest_new, holds_new, NewToFirst}
 use Rattle.plans.specs.declared.Kind.{Kind}
 use Rattle.plans.specs.declared.Kind.TheVariants.{Box, Polygon, Ellipse, And, Or, Not, DecimalEllipse, Ellipsoid, Unknown}
-use Rattle.plans.proofs.IndexLaws.{clash, and_both, and_right-false, first-same, first-before, first-at, first_to, first-none, first-is}
+use Rattle.plans.proofs.IndexLaws.{clash, and_both, and_right-false, first-same, first-before, first-at, first-none, first-is}
 use Rattle.plans.proofs.KindLaws.{spans-both}
-use Rattle.plans.proofs.PlanTheorems.{Form, form→passed, passed→form}
+use Rattle.plans.proofs.PlanTheorems.{form→passed, passed→form}
 
 -- a float knows no kind that none of today knows
 abbrev pub KnowsLess : Float → Type 0

@@ -15,7 +15,6 @@ use Rattle.text.specs.Lines.{fields, ends_in_lf}
 use Rattle.text.proofs.TestLaws.{passed_or_failed}
 use Rattle.gates.specs.declared.LineKind.TheVariants.{Poly}
 use Rattle.gates.specs.Kinds.{line_kind}
-use Rattle.gates.specs.Gate.{regions}
 use Rattle.tables.specs.Head.{dimensions, gate_lines, gates, reordered}
 use Rattle.tables.specs.Refusals.{table_verdict}
 use Rattle.tables.specs.Compile.{plan_of, Compiling, compile_of}

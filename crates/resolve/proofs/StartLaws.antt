@@ -8,7 +8,6 @@ use lib.Seq.{get_or-drop, take_all, get_or-take, ext_get_or}
 use Rattle.text.specs.Bounded.{tab}
 use Rattle.text.specs.Lines.{lines}
 use Rattle.text.specs.Inner.Places.{line_starts}
-use Rattle.text.specs.Output.{over}
 use Rattle.text.proofs.BoundedLaws.{length-tab, get_or-tab}
 use Rattle.text.proofs.LinesLaws.{line_starts-length, line-at_start}
 use Rattle.text.proofs.OutputLaws.{get_d_over}

@@ -14,7 +14,7 @@ use Rattle.plans.specs.Indices.{first_bad}
 use Rattle.plans.specs.Refusals.{Verdict, refused}
 use Rattle.plans.proofs.IndexLaws.{first-at, first-before, first-is}
 use Rattle.text.specs.Lines.{lines, fields}
-use Rattle.gates.specs.Gate.{Gate, one, regions}
+use Rattle.gates.specs.Gate.{Gate, regions}
 use Rattle.gates.specs.Inner.Regions.{region_count}
 use Rattle.gates.specs.Rules.{no_refusal}
 use Rattle.gates.specs.Refusal.{line_refusal}

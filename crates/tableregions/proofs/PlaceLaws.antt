@@ -1,8 +1,8 @@
 -- Where a region stands: the regions of the gates before its own, and then its place among those of its gate.
 use mathlib.Core.Path.{◌≡◌, sym, ap, ◌∙◌}
 use mathlib.Core.Bool.{true, false}
-use mathlib.Core.List.{List, []}
-use Prim.Native.Nat.{ℕ, suc, ◌+◌, ◌-◌, ◌<◌, ◌≤◌}
+use mathlib.Core.List.{List}
+use Prim.Native.Nat.{ℕ, ◌+◌, ◌-◌, ◌<◌, ◌≤◌}
 use native.Mathlib.Omega.{arith}
 use native.Mathlib.Decide.{dec_lt}
 use native.Mathlib.Nat.{zero-add}
@@ -12,11 +12,11 @@ use borrow.Author.Tests.{le-leb, lt-leb, leb-true, leb-false}
 use Rattle.plans.specs.Indices.{first_bad}
 use Rattle.plans.proofs.IndexLaws.{first-at, first-before, first_to}
 use Rattle.text.specs.Lines.{fields}
-use Rattle.gates.specs.Gate.{Name, Region}
+use Rattle.gates.specs.Gate.{Name}
 use Rattle.gates.specs.Inner.Regions.{region_count, region_name}
 use Rattle.tables.specs.Table.{no_region, nth_region}
-use Rattle.resolve.specs.Inner.Reading.{line_at, fields_at, gates_at, regions_at}
-use Rattle.resolve.proofs.ReadLaws.{count-more, count-up, region-named}
+use Rattle.resolve.specs.Inner.Reading.{line_at, fields_at, regions_at}
+use Rattle.resolve.proofs.ReadLaws.{count-more, region-named}
 use Rattle.resolve.proofs.CrowdLaws.{total-none}
 use Rattle.tableregions.specs.Inner.Located.{ends_before, gate_of_region, located_at}
 use Rattle.tableregions.specs.declared.Located.{Located}

@@ -1,28 +1,27 @@
 -- Floats of an earlier issue and the plans of accepted tables: refused at the lowest new word and never counted, or counted as today and by demand 3.
 use mathlib.Core.Path.{◌≡◌, refl, sym, ap, ◌∙◌}
-use mathlib.Core.Bool.{Bool, true, false, not, ◌&&◌, cond}
+use mathlib.Core.Bool.{Bool, true, false, not, cond}
 use mathlib.Core.Logic.{◌⊎◌, inl, inr, ⊎_elim}
 use mathlib.Core.List.Memᴰ
 use mathlib.Core.List.Memᴰ.{head as here}
 use mathlib.Core.List.Memᴰ.{tail as there}
 use mathlib.Core.List.Permᴰ
 use mathlib.Core.List.{List, [], ◌∷◌, ◌++◌, append_assoc}
-use Prim.Native.Nat.{ℕ, zero, suc, ◌+◌, ◌%◌, ◌<◌, ◌≤◌}
+use Prim.Native.Nat.{ℕ, ◌+◌, ◌%◌, ◌<◌, ◌≤◌}
 use native.Mathlib.Omega.{arith}
 use lib.Dec.{ltb, eqb}
 use lib.IntN.{ℤ, pos}
 use lib.ListN.{length, length-append}
 use borrow.Author.Tests.{lt-ltb, le-ltb, eq-eqb}
 use Rattle.plans.specs.Bits.{has_bit, with_bit}
-use Rattle.plans.specs.Refusals.{passed, refused}
+use Rattle.plans.specs.Refusals.{passed}
 use Rattle.plans.specs.Words.{word, number}
 use Rattle.plans.specs.Form.{Float, first, kind_at, step_count, check_for, check_of}
-use Rattle.plans.specs.Kinds.{spans}
 use Rattle.plans.specs.NewWords.{new_step_word, new_word, old_word, lowest_new, holds_new, NewToFirst}
 use Rattle.plans.proofs.BitLaws.{no_bit}
 use Rattle.plans.proofs.IndexLaws.{clash, and_right-false, first-none}
 use Rattle.plans.proofs.FloatTheorems.{KnowsLess, first_less, lowest_is-new, nothing-before, holds-some, new-refused, old-passes, first-at-new, unknown_to-first}
-use Rattle.counter.specs.Counting.{no_tally, count_for, count_of}
+use Rattle.counter.specs.Counting.{count_for, count_of}
 use Rattle.counter.proofs.FloatTheorems.{counts-as-today, new-uncounted, old-counted}
 use Rattle.gates.specs.Gate.{Region, regions}
 use Rattle.tables.specs.Table.{◌∈◌, nth_region}
@@ -40,7 +39,7 @@ use Rattle.tables.proofs.GateLaws.{orderly, moved-region}
 use Rattle.tables.proofs.StepLaws.{kind-is, next-is}
 use Rattle.tables.proofs.Acceptance.{Accepted, passed-accepted}
 use Rattle.tables.proofs.CompileLaws.{compiled-verdict, compiled-plan, plan-passes}
-use Rattle.tables.proofs.OrderedAgain.{OrderedAgain, ordered-again}
+use Rattle.tables.proofs.OrderedAgain.{ordered-again}
 use Rattle.tables.proofs.Demand.{demand_3}
 
 -- ---- the words of a plan that are new

@@ -1,6 +1,5 @@
 -- `compile`: the refusal, or the plan.
 use mathlib.Core.Path.{sym, ap, ◌∙◌}
-use borrow.Author.Rules.{rules}
 use Rattle.compiler.specs.Answers.{acceptance, accepts}
 use Rattle.compiler.proofs.VerdictLaws.{compile_refused}
 use Rattle.compiler.proofs.compile.Goals as goal

@@ -1,5 +1,4 @@
 -- `compile_accepted`: the plan written over the slice, its words and its regions.
-use borrow.Author.Rules.{rules}
 use Rattle.resolve.proofs.StartLaws.{places, line-count}
 use Rattle.resolve.proofs.NumberLaws.{total_is}
 use Rattle.compiler.proofs.SettledLaws.{unrefused, settled, plan-read, words-read, regions-read}

@@ -1,5 +1,4 @@
 -- `measured`: the words of the plan, against 4,096 and the room that there is.
-use borrow.Author.Rules.{rules}
 use native.Mathlib.Omega.{arith}
 use Rattle.resolve.proofs.StartLaws.{places, line-count}
 use Rattle.compiler.proofs.SettledLaws.{settled, words-read}

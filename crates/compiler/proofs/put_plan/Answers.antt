@@ -1,7 +1,6 @@
 -- `put_plan` meets its contract: two numbers, and the steps over the rest that is lent.
 use Rattle.compiler.proofs.PlanLaws.{plan-length, plan-put, dims-read}
 use Rattle.resolve.proofs.NumberLaws.{total_is}
-use borrow.Author.Rules.{rules}
 use native.Mathlib.Omega.{arith}
 use Rattle.compiler.proofs.put_plan.Goals as goal
 

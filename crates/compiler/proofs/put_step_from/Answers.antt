@@ -2,7 +2,6 @@
 use Rattle.text.proofs.WritingLaws.{over-lent}
 use Rattle.tableregions.proofs.PlaceLaws.{gate_inside, quadrant-inside, place_is}
 use Rattle.stepwriter.proofs.StepLaws.{step_is}
-use borrow.Author.Rules.{rules}
 use Rattle.compiler.proofs.put_step_from.Goals as goal
 
 pub returns : goal.returns

@@ -1,15 +1,7 @@
 -- `put_steps` meets its contract: k steps are written over the beginning.
-use Prim.Native.Nat.{◌-◌, ◌<◌, ◌≤◌}
-use Rattle.compiler.proofs.StepsLaws.{Filling, filling_none, filling_end, filling_stuck, filling_more, next-is}
-use Rattle.graph.specs.Inner.Rows.{Referring}
+use Prim.Native.Nat.{◌-◌}
+use Rattle.compiler.proofs.StepsLaws.{Filling}
 use Rattle.resolve.specs.Inner.Reading.{regions_at}
-use Rattle.tableregions.proofs.ReferenceLaws.{referring}
-use Rattle.stepwriter.proofs.StepLaws.{step-short}
-use Rattle.text.proofs.OutputLaws.{over-length}
-use borrow.Author.Rules.{rules}
-use lib.ListN.{length}
-use mathlib.Core.Path.{◌≡◌, ◌∙◌, ap}
-use native.Mathlib.Omega.{arith}
 use Rattle.compiler.proofs.put_steps.Given as goal
 
 abbrev pub invariant-loop-k : goal.invariant-loop-k

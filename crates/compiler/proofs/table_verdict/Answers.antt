@@ -1,6 +1,5 @@
 -- `table_verdict`: each refusal of 1 to 16, else 17, 18 or none.
 use Rattle.compiler.proofs.VerdictLaws.{both, refused_as, unrefused-as}
-use borrow.Author.Rules.{rules}
 use mathlib.Core.Path.{refl}
 use Rattle.compiler.proofs.table_verdict.Goals as goal
 

@@ -1,6 +1,5 @@
 -- `before_point`: the first point, or the end, lies inside s.
 use native.Mathlib.Omega.{arith}
-use borrow.Author.Rules.{rules}
 use lib.ListN.{length-take}
 use Rattle.decimals.specs.Decimals.{before_point}
 use Rattle.text.proofs.LinesLaws.{found_inside}

@@ -1,7 +1,6 @@
 -- `decimal_at`: behind the end stands `0`.
 use mathlib.Core.Path.{sym}
 use native.Mathlib.Omega.{arith}
-use borrow.Author.Rules.{rules}
 use lib.ListN.{get_or-eq_default}
 use Rattle.text.proofs.BytesLaws.{rest_cons, rest-first}
 use Rattle.decimals.proofs.decimal_at.Goals as goal

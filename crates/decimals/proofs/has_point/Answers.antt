@@ -1,5 +1,4 @@
 -- `has_point`: a point is found inside s.
-use borrow.Author.Rules.{rules}
 use Rattle.decimals.specs.Decimals.{has_point}
 use Rattle.decimals.proofs.DecimalLaws.{point_found}
 use Rattle.decimals.proofs.has_point.Goals as goal

@@ -1,5 +1,4 @@
 -- `is_decimal`: the tests are the definition's.
-use borrow.Author.Rules.{rules}
 use Rattle.decimals.specs.Decimals.{is_decimal}
 use Rattle.decimals.proofs.is_decimal.Goals as goal
 

@@ -1,7 +1,6 @@
 -- `minus_zero`: what is kept is zero exactly where the value is.
 use mathlib.Core.Path.{ap}
 use mathlib.Core.Bool.{Bool, ◌&&◌}
-use borrow.Author.Rules.{rules}
 use Rattle.text.specs.Numbers.{is_negative, unsigned}
 use Rattle.decimals.specs.Decimals.{unsigned_thousandths, is_minus_zero}
 use Rattle.decimals.proofs.DecimalLaws.{zero-kept}

@@ -1,6 +1,5 @@
 -- `one_to_three`: the tests are the definition's.
 use mathlib.Core.Path.{refl}
-use borrow.Author.Rules.{rules}
 use Rattle.decimals.specs.Decimals.{is_one_to_three}
 use Rattle.decimals.proofs.one_to_three.Goals as goal
 

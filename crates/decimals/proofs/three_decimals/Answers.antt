@@ -1,6 +1,5 @@
 -- `three_decimals`: the digits at 0, 1 and 2 make the value.
 use mathlib.Core.Path.{refl}
-use borrow.Author.Rules.{rules}
 use Rattle.decimals.proofs.DecimalLaws.{three-decimals}
 use Rattle.decimals.proofs.three_decimals.Goals as goal
 

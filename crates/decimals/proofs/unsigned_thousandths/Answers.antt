@@ -2,7 +2,6 @@
 use mathlib.Core.Path.{◌≡◌, sym, ◌∙◌}
 use Prim.Native.Nat.{ℕ, ◌+◌, ◌*◌, ◌≤◌, min}
 use native.Mathlib.Omega.{arith}
-use borrow.Author.Rules.{rules}
 use Rattle.decimals.specs.Decimals.{unsigned_thousandths}
 use Rattle.decimals.proofs.DecimalLaws.{thousandths-cut}
 use Rattle.decimals.proofs.unsigned_thousandths.Goals as goal

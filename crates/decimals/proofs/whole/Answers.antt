@@ -1,5 +1,4 @@
 -- `whole`: the tests are the definition's.
-use borrow.Author.Rules.{rules}
 use Rattle.decimals.specs.Decimals.{is_whole}
 use Rattle.decimals.proofs.whole.Goals as goal
 

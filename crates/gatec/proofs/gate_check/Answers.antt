@@ -2,7 +2,6 @@
 use mathlib.Core.Path.{ap}
 use lib.Seq.{sets}
 use Rattle.gatec.specs.Answers.{check_row}
-use borrow.Author.Rules.{rules}
 use Rattle.gatec.proofs.gate_check.Goals as goal
 
 pub returns : goal.returns

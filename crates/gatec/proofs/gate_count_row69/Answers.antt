@@ -1,15 +1,12 @@
 -- `gate_count_row69` writes the tally's row.
 use mathlib.Core.Path.{◌≡◌, ◌∙◌, ap}
-use mathlib.Core.List.{List}
-use Prim.Native.Nat.{ℕ}
 use native.Mathlib.Omega.{arith}
-use lib.ListN.{length, set}
+use lib.ListN.{length}
 use lib.Seq.{sets}
 use Rattle.counter.specs.Counting.{Counting}
 use Rattle.gatec.specs.Answers.{count_row}
 use Rattle.gatec.proofs.RowLaws.{sets_more}
 use Rattle.gatec.proofs.RowTheorems.{count_long}
-use borrow.Author.Rules.{rules}
 use Rattle.gatec.proofs.gate_count_row69.Goals as goal
 
 pub returns : goal.returns

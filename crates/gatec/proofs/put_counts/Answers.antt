@@ -1,10 +1,10 @@
 -- `put_counts`: the row holds the counts before the i-th.
 use mathlib.Core.Path.{◌≡◌, refl, ◌∙◌, ap}
 use mathlib.Core.List.{List}
-use Prim.Native.Nat.{ℕ, ◌+◌, ◌-◌, ◌≤◌}
+use Prim.Native.Nat.{ℕ, ◌+◌}
 use native.Mathlib.Omega.{arith}
-use lib.ListN.{length, get_or, set, take}
-use lib.Seq.{sets, take_all}
+use lib.ListN.{length, get_or, set}
+use lib.Seq.{take_all}
 use Rattle.gatec.proofs.RowLaws.{counts-more}
 use borrow.Author.Rules.{rules}
 use Rattle.gatec.proofs.put_counts.Goals as goal

@@ -2,7 +2,6 @@
 use mathlib.Core.Path.{ap}
 use lib.Seq.{sets}
 use Rattle.gatejudge.specs.Answers.{judge_row}
-use borrow.Author.Rules.{rules}
 use Rattle.gatejudge.proofs.gate_judge_row4.Goals as goal
 
 pub returns : goal.returns

@@ -1,6 +1,5 @@
 -- `body_rule` goes by kind as `body_rule` does.
 use mathlib.Core.Path.{refl}
-use borrow.Author.Rules.{rules}
 use Rattle.gaterules.proofs.body_rule.Goals as goal
 
 pub returns-in-Rect : goal.returns-in-Rect

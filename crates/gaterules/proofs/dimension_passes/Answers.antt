@@ -1,6 +1,5 @@
 -- `dimension_passes`: the contracts of the calls, put together.
 use Rattle.gates.specs.Rules.{dimension_passes}
-use borrow.Author.Rules.{rules}
 use Rattle.gaterules.proofs.dimension_passes.Goals as goal
 
 pub returns : goal.returns

@@ -3,10 +3,9 @@ use borrow.Author.Rules.{rules}
 use native.Mathlib.Omega.{arith}
 use native.Mathlib.Numerals.{add-one}
 use mathlib.Core.Path.{◌≡◌, refl}
-use Prim.Native.Nat.{◌-◌, ◌≤◌, min}
+use Prim.Native.Nat.{min}
 use lib.Dec.{leb}
 use Rattle.text.specs.Lines.{fields}
-use Rattle.text.specs.Bounded.{last}
 use Rattle.gates.specs.Quads.{divider_at}
 use Rattle.gates.specs.Rules.{divider_of}
 use Rattle.gaterules.proofs.RuleLaws.{last-below}

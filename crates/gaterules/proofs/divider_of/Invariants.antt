@@ -1,15 +1,10 @@
 -- `divider_of`: the last divider that begins at k or before, of those below t.
-use borrow.Author.Rules.{rules}
-use native.Mathlib.Omega.{arith}
-use native.Mathlib.Numerals.{add-one}
-use mathlib.Core.Path.{◌≡◌, refl}
-use Prim.Native.Nat.{◌-◌, ◌≤◌, min}
+use mathlib.Core.Path.{◌≡◌}
+use Prim.Native.Nat.{◌-◌, ◌≤◌}
 use lib.Dec.{leb}
 use Rattle.text.specs.Lines.{fields}
 use Rattle.text.specs.Bounded.{last}
 use Rattle.gates.specs.Quads.{divider_at}
-use Rattle.gates.specs.Rules.{divider_of}
-use Rattle.gaterules.proofs.RuleLaws.{last-below}
 use Rattle.gaterules.proofs.divider_of.Given as goal
 
 abbrev pub invariant-loop-t : goal.invariant-loop-t

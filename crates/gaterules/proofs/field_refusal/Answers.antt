@@ -1,7 +1,6 @@
 -- `field_refusal`: by the rule of the field.
 use Rattle.gates.specs.Rules.{field_refusal}
 use mathlib.Core.Path.{refl}
-use borrow.Author.Rules.{rules}
 use Rattle.gaterules.proofs.field_refusal.Goals as goal
 
 pub returns-in-Free : goal.returns-in-Free

@@ -3,11 +3,7 @@ use borrow.Author.Rules.{rules}
 use native.Mathlib.Omega.{arith}
 use native.Mathlib.Numerals.{add-one}
 use mathlib.Core.Path.{◌≡◌, refl}
-use Prim.Native.Nat.{◌-◌, ◌≤◌}
-use lib.ListN.{drop}
-use Rattle.text.specs.Lines.{fields}
-use Rattle.text.specs.Bounded.{least}
-use Rattle.gates.specs.Rules.{field_refusal, fields_refusal, no_refusal}
+use Rattle.gates.specs.Rules.{fields_refusal}
 use Rattle.gaterules.proofs.fields_refusal.Goals as goal
 
 pub loop-k-init : goal.loop-k-init

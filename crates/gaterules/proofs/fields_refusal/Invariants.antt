@@ -1,13 +1,10 @@
 -- `fields_refusal`: the least refusal of the fields below k.
-use borrow.Author.Rules.{rules}
-use native.Mathlib.Omega.{arith}
-use native.Mathlib.Numerals.{add-one}
-use mathlib.Core.Path.{◌≡◌, refl}
+use mathlib.Core.Path.{◌≡◌}
 use Prim.Native.Nat.{◌-◌, ◌≤◌}
 use lib.ListN.{drop}
 use Rattle.text.specs.Lines.{fields}
 use Rattle.text.specs.Bounded.{least}
-use Rattle.gates.specs.Rules.{field_refusal, fields_refusal, no_refusal}
+use Rattle.gates.specs.Rules.{field_refusal, no_refusal}
 use Rattle.gaterules.proofs.fields_refusal.Given as goal
 
 abbrev pub invariant-loop-k : goal.invariant-loop-k

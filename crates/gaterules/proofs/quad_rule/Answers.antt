@@ -5,7 +5,6 @@ use mathlib.Core.Path.{◌≡◌}
 use Prim.Native.Nat.{min}
 use Rattle.gates.specs.Rules.{quad_rule}
 use Rattle.integers.proofs.Rules.{tests}
-use borrow.Author.Rules.{rules}
 use Rattle.gaterules.proofs.quad_rule.Goals as goal
 
 pub returns-then-k-le3 : goal.returns-then-k-le3

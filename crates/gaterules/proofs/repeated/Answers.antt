@@ -3,13 +3,8 @@ use borrow.Author.Rules.{rules}
 use native.Mathlib.Omega.{arith}
 use native.Mathlib.Numerals.{add-one}
 use mathlib.Core.Path.{◌≡◌, refl}
-use mathlib.Core.Bool.{◌&&◌}
-use Prim.Native.Nat.{◌-◌, ◌≤◌}
-use Rattle.text.specs.Lines.{fields}
-use Rattle.text.specs.Bytes.{same}
 use Rattle.plans.specs.Indices.{any}
-use Rattle.gates.specs.Kinds.{field_at}
-use Rattle.gates.specs.Rules.{is_dimension, rule_of, repeated}
+use Rattle.gates.specs.Rules.{repeated}
 use Rattle.gaterules.proofs.repeated.Goals as goal
 
 pub loop-j-init : goal.loop-j-init
@@ -18,19 +13,18 @@ loop-j-init c = (search rules, refl)
 
 pub loop-j-preserved : goal.loop-j-preserved
 unfolding any
-loop-j-preserved c =
-    (
-      search rules,
-      rw (
-        add-one,
-        c.same.ensures,
-        c.field.ensures,
-        c.field-x.ensures,
-        c.is_dimension.ensures,
-        c.rule_of.ensures,
-        c.loop-j.invariant.1,
-      ),
-    )
+loop-j-preserved c = (
+  search rules,
+  rw (
+    add-one,
+    c.same.ensures,
+    c.field.ensures,
+    c.field-x.ensures,
+    c.is_dimension.ensures,
+    c.rule_of.ensures,
+    c.loop-j.invariant.1,
+  ),
+)
 
 pub returns : goal.returns
 unfolding repeated

@@ -1,15 +1,12 @@
 -- `repeated`: whether a dimension before j is the same field.
-use borrow.Author.Rules.{rules}
-use native.Mathlib.Omega.{arith}
-use native.Mathlib.Numerals.{add-one}
-use mathlib.Core.Path.{◌≡◌, refl}
+use mathlib.Core.Path.{◌≡◌}
 use mathlib.Core.Bool.{◌&&◌}
 use Prim.Native.Nat.{◌-◌, ◌≤◌}
 use Rattle.text.specs.Lines.{fields}
 use Rattle.text.specs.Bytes.{same}
 use Rattle.plans.specs.Indices.{any}
 use Rattle.gates.specs.Kinds.{field_at}
-use Rattle.gates.specs.Rules.{is_dimension, rule_of, repeated}
+use Rattle.gates.specs.Rules.{is_dimension, rule_of}
 use Rattle.gaterules.proofs.repeated.Given as goal
 
 abbrev pub invariant-loop-j : goal.invariant-loop-j

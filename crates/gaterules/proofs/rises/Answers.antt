@@ -2,7 +2,6 @@
 use mir.Syntax.{w32}
 use mir.ValLaws.{to_z-of_z}
 use Rattle.gates.specs.Rules.{uncrossed}
-use borrow.Author.Rules.{rules}
 use Rattle.gaterules.proofs.rises.Goals as goal
 
 pub returns : goal.returns

@@ -1,7 +1,6 @@
 -- `rule_of`: the first three fields are the same for all kinds; a later one goes by the kind.
 use Rattle.gates.specs.Rules.{rule_of}
 use Rattle.integers.proofs.Rules.{tests}
-use borrow.Author.Rules.{rules}
 use Rattle.gaterules.proofs.rule_of.Goals as goal
 
 pub returns-then-k-eq0 : goal.returns-then-k-eq0

@@ -3,10 +3,8 @@ use borrow.Author.Rules.{rules}
 use Rattle.graph.proofs.RowLaws.{held-not, held_still}
 use Rattle.graph.specs.Inner.Rows.{held}
 use Rattle.plans.proofs.IndexLaws.{first_more, first_stop, first_end}
-use Rattle.plans.specs.Indices.{first_bad}
 use native.Mathlib.Nat.{sub-zero}
-use Prim.Native.Nat.{◌-◌, ◌≤◌}
-use mathlib.Core.Path.{◌≡◌, sym, ◌∙◌}
+use mathlib.Core.Path.{sym, ◌∙◌}
 use Rattle.graph.proofs.next_row.Goals as goal
 
 pub loop-r-init : goal.loop-r-init

@@ -1,12 +1,8 @@
 -- `next_row` meets its contract: the first that is not held is the first from r on.
-use borrow.Author.Rules.{rules}
-use Rattle.graph.proofs.RowLaws.{held-not, held_still}
 use Rattle.graph.specs.Inner.Rows.{held}
-use Rattle.plans.proofs.IndexLaws.{first_more, first_stop, first_end}
 use Rattle.plans.specs.Indices.{first_bad}
-use native.Mathlib.Nat.{sub-zero}
 use Prim.Native.Nat.{◌-◌, ◌≤◌}
-use mathlib.Core.Path.{◌≡◌, sym, ◌∙◌}
+use mathlib.Core.Path.{◌≡◌}
 use Rattle.graph.proofs.next_row.Given as goal
 
 abbrev pub invariant-loop-r : goal.invariant-loop-r

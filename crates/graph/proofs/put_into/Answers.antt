@@ -1,5 +1,4 @@
 -- `put_into` meets its contract.
-use borrow.Author.Rules.{rules}
 use Rattle.graph.proofs.put_into.Goals as goal
 
 pub returns-then-has_bit : goal.returns-then-has_bit

@@ -1,9 +1,8 @@
 -- `reach` meets its contract: the rows are those of round s.
-use Rattle.graph.proofs.RowLaws.{Round, round-first, round-next, round-length, rounds-past}
+use Rattle.graph.proofs.RowLaws.{round-first, round-next, round-length, rounds-past}
 use borrow.Author.Rules.{rules}
 use lib.ListN.{length}
 use native.Mathlib.Omega.{arith}
-use Prim.Native.Nat.{◌-◌, ◌≤◌}
 use mathlib.Core.Path.{◌≡◌, sym, ◌∙◌}
 use Rattle.graph.proofs.reach.Goals as goal
 

@@ -1,10 +1,8 @@
 -- `reach` meets its contract: the rows are those of round s.
-use Rattle.graph.proofs.RowLaws.{Round, round-first, round-next, round-length, rounds-past}
-use borrow.Author.Rules.{rules}
+use Rattle.graph.proofs.RowLaws.{Round}
 use lib.ListN.{length}
-use native.Mathlib.Omega.{arith}
 use Prim.Native.Nat.{◌-◌, ◌≤◌}
-use mathlib.Core.Path.{◌≡◌, sym, ◌∙◌}
+use mathlib.Core.Path.{◌≡◌}
 use Rattle.graph.proofs.reach.Given as goal
 
 abbrev pub invariant-loop-s : goal.invariant-loop-s

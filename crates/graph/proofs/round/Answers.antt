@@ -3,10 +3,8 @@ use borrow.Author.Rules.{rules}
 use Rattle.graph.proofs.RowLaws.{row_put, all_written}
 use Rattle.graph.specs.Inner.Rows.{joined}
 use Rattle.text.specs.Output.{over}
-use Rattle.text.specs.Bounded.{tab}
 use lib.ListN.{length}
 use native.Mathlib.Omega.{arith}
-use Prim.Native.Nat.{◌-◌, ◌≤◌}
 use mathlib.Core.Path.{◌≡◌, refl, ◌∙◌}
 use Rattle.graph.proofs.round.Goals as goal
 

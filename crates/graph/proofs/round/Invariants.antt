@@ -1,13 +1,9 @@
 -- `round` meets its contract: rows below i are the new ones, those from i on the old.
-use borrow.Author.Rules.{rules}
-use Rattle.graph.proofs.RowLaws.{row_put, all_written}
 use Rattle.graph.specs.Inner.Rows.{joined}
 use Rattle.text.specs.Output.{over}
 use Rattle.text.specs.Bounded.{tab}
-use lib.ListN.{length}
-use native.Mathlib.Omega.{arith}
 use Prim.Native.Nat.{◌-◌, ◌≤◌}
-use mathlib.Core.Path.{◌≡◌, refl, ◌∙◌}
+use mathlib.Core.Path.{◌≡◌}
 use Rattle.graph.proofs.round.Given as goal
 
 abbrev pub invariant-loop-i : goal.invariant-loop-i

@@ -2,7 +2,6 @@
 use mathlib.Core.Path.{◌≡◌, sym}
 use native.Mathlib.Omega.{arith}
 use lib.ListN.{length, get_or-eq_default}
-use borrow.Author.Rules.{rules}
 use Rattle.graph.proofs.row_at.Goals as goal
 
 pub returns-else-i-lt64 : goal.returns-else-i-lt64

@@ -1,14 +1,10 @@
 -- `all_different`.
 use Rattle.heads.proofs.HeadLaws.{different-all, different-not}
 use Rattle.text.specs.Lines.{fields}
-use Rattle.text.specs.Inner.Places.{find_field}
 use borrow.Author.Count.{below_more}
 use borrow.Author.Rules.{rules}
-use lib.ListN.{get_or}
 use native.Mathlib.Omega.{arith}
-use Prim.Native.Nat.{ℕ, ◌-◌, ◌<◌, ◌≤◌}
-use mathlib.Core.List.{[]}
-use mathlib.Core.Path.{◌≡◌, sym}
+use mathlib.Core.Path.{sym}
 use Rattle.heads.proofs.all_different.Goals as goal
 
 pub loop-k-init : goal.loop-k-init

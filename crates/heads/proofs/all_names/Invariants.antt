@@ -1,13 +1,10 @@
 -- `all_names`.
-use Rattle.heads.proofs.HeadLaws.{names_more, names_stop, names_end}
 use Rattle.text.specs.Names.{is_name}
 use Rattle.text.specs.Lines.{fields}
 use Rattle.text.specs.Bytes.{every}
-use borrow.Author.Tests.{not-true, not-false}
-use borrow.Author.Rules.{rules}
 use lib.ListN.{drop}
 use Prim.Native.Nat.{◌-◌}
-use mathlib.Core.Path.{◌≡◌, refl, sym, ◌∙◌}
+use mathlib.Core.Path.{◌≡◌}
 use Rattle.heads.proofs.all_names.Given as goal
 
 abbrev pub invariant-loop-k : goal.invariant-loop-k

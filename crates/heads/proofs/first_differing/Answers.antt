@@ -1,13 +1,9 @@
 -- `first_differing`: field by field, till one differs or one of the two ends.
 use Rattle.heads.proofs.ColumnLaws.{names_reach, differing_later, differing_here, differing_end}
-use Rattle.tables.specs.Columns.{first_differing}
 use Rattle.text.specs.Lines.{fields}
 use Rattle.text.proofs.LinesLaws.{fields-some}
-use borrow.Author.Rules.{rules}
 use native.Mathlib.Omega.{arith}
-use lib.ListN.{drop}
-use Prim.Native.Nat.{◌+◌, ◌-◌, ◌≤◌}
-use mathlib.Core.Path.{◌≡◌, sym, ◌∙◌}
+use mathlib.Core.Path.{sym, ◌∙◌}
 use Rattle.heads.proofs.first_differing.Goals as goal
 
 pub loop-k-init : goal.loop-k-init

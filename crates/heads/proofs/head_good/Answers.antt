@@ -2,7 +2,6 @@
 use Rattle.heads.proofs.HeadLaws.{sized}
 use Rattle.tables.specs.Head.{head_fields, dimensions, head_good}
 use Rattle.text.specs.Lines.{fields}
-use borrow.Author.Rules.{rules}
 use Rattle.heads.proofs.head_good.Goals as goal
 
 pub returns : goal.returns

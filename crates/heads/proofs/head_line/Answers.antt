@@ -1,7 +1,6 @@
 -- `head_line`.
 use Rattle.heads.proofs.HeadLaws.{first-line}
 use mathlib.Core.Path.{◌∙◌}
-use borrow.Author.Rules.{rules}
 use Rattle.heads.proofs.head_line.Goals as goal
 
 pub returns : goal.returns

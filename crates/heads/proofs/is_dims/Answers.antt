@@ -1,6 +1,5 @@
 -- `is_dims`.
 use Rattle.tables.specs.Head.{is_dims}
-use borrow.Author.Rules.{rules}
 use Rattle.heads.proofs.is_dims.Goals as goal
 
 pub returns : goal.returns

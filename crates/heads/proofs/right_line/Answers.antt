@@ -2,7 +2,6 @@
 use Rattle.heads.proofs.ColumnLaws.{nothing-behind, behind-tab}
 use Rattle.tables.specs.Head.{head_fields, dimensions}
 use Rattle.tables.specs.Columns.{right_line}
-use borrow.Author.Rules.{rules}
 use Rattle.heads.proofs.right_line.Goals as goal
 
 pub returns-then-head-end : goal.returns-then-head-end

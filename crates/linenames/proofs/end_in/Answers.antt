@@ -1,7 +1,6 @@
 -- `end_in`: by the number of the step's kind.
 use native.Mathlib.Omega.{arith}
 use borrow.Author.Tests.{not-true, not-false, eq-eqb, ne_eqb}
-use borrow.Author.Rules.{rules}
 use Rattle.linenames.proofs.end_in.Goals as goal
 
 pub returns-then-not-combines : goal.returns-then-not-combines

@@ -1,7 +1,6 @@
 -- `find_quadrant` meets its contract: the quadrants of a quadrant gate are its regions.
 use Rattle.linenames.proofs.SearchLaws.{quadrant-found}
 use Rattle.text.specs.Lines.{fields}
-use borrow.Author.Rules.{rules}
 use Rattle.linenames.proofs.find_quadrant.Goals as goal
 
 pub returns : goal.returns

@@ -1,13 +1,9 @@
 -- `find_region` meets its contract.
-use Rattle.linenames.proofs.SearchLaws.{region-here, region-other}
 use Rattle.linenames.specs.Inner.LineNames.{other_region, region_named}
 use Rattle.text.specs.Lines.{fields}
-use Rattle.plans.proofs.IndexLaws.{first_more, first_stop, first_end}
 use Rattle.plans.specs.Indices.{first_bad}
-use borrow.Author.Rules.{rules}
-use native.Mathlib.Nat.{sub-zero}
 use Prim.Native.Nat.{◌-◌, ◌≤◌}
-use mathlib.Core.Path.{◌≡◌, sym, ◌∙◌}
+use mathlib.Core.Path.{◌≡◌}
 use Rattle.linenames.proofs.find_region.Given as goal
 
 abbrev pub invariant-loop-q : goal.invariant-loop-q

@@ -1,6 +1,5 @@
 -- `gives_name` meets its contract.
 use Rattle.linenames.specs.Inner.LineNames.{gives_name}
-use borrow.Author.Rules.{rules}
 use Rattle.linenames.proofs.gives_name.Goals as goal
 
 pub returns : goal.returns

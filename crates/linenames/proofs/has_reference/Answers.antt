@@ -1,6 +1,5 @@
 -- `has_reference` meets its contract.
 use Rattle.linenames.specs.Inner.LineNames.{has_reference}
-use borrow.Author.Rules.{rules}
 use Rattle.linenames.proofs.has_reference.Goals as goal
 
 pub returns : goal.returns

@@ -1,6 +1,5 @@
 -- `names_region` meets its contract.
 use Rattle.linenames.specs.Inner.LineNames.{names_region}
-use borrow.Author.Rules.{rules}
 use Rattle.linenames.proofs.names_region.Goals as goal
 
 pub returns : goal.returns

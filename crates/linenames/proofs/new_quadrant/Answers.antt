@@ -1,6 +1,5 @@
 -- `new_quadrant` meets its contract.
 use Rattle.linenames.specs.Inner.LineNames.{new_quadrant}
-use borrow.Author.Rules.{rules}
 use Rattle.linenames.proofs.new_quadrant.Goals as goal
 
 pub returns : goal.returns

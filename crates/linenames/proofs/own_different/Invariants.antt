@@ -1,14 +1,10 @@
 -- `own_different` meets its contract.
-use Rattle.linenames.specs.Inner.LineNames.{new_quadrant, quad_count, own_different}
+use Rattle.linenames.specs.Inner.LineNames.{new_quadrant}
 use Rattle.text.specs.Lines.{fields}
-use Rattle.plans.proofs.IndexLaws.{all_more, all_stop}
 use Rattle.plans.specs.Indices.{all}
-use borrow.Author.Tests.{not-true, not-false}
-use borrow.Author.Rules.{rules}
-use native.Mathlib.Omega.{arith}
 use Prim.Native.Nat.{◌-◌, ◌≤◌}
 use mathlib.Core.Bool.{true}
-use mathlib.Core.Path.{◌≡◌, refl, sym, ◌∙◌}
+use mathlib.Core.Path.{◌≡◌}
 use Rattle.linenames.proofs.own_different.Given as goal
 
 abbrev pub invariant-loop-q : goal.invariant-loop-q

@@ -1,6 +1,5 @@
 -- `quad_count` meets its contract.
 use Rattle.linenames.specs.Inner.LineNames.{quad_count}
-use borrow.Author.Rules.{rules}
 use Rattle.linenames.proofs.quad_count.Goals as goal
 
 pub returns : goal.returns

@@ -2,7 +2,6 @@
 use Rattle.linenames.proofs.SearchLaws.{quadrant-read}
 use Rattle.text.specs.Lines.{fields}
 use mathlib.Core.Path.{◌∙◌}
-use borrow.Author.Rules.{rules}
 use Rattle.linenames.proofs.quadrant_name.Goals as goal
 
 pub returns : goal.returns

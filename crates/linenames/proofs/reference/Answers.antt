@@ -1,7 +1,6 @@
 -- `reference` meets its contract.
 use Rattle.linenames.specs.Inner.LineNames.{reference_at}
 use borrow.Author.Tests.{eq-eqb, ne_eqb}
-use borrow.Author.Rules.{rules}
 use Rattle.linenames.proofs.reference.Goals as goal
 
 pub returns-then-k-eq2 : goal.returns-then-k-eq2

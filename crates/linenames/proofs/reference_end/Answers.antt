@@ -1,6 +1,5 @@
 -- `reference_end` meets its contract.
 use Rattle.linenames.specs.Inner.LineNames.{reference_end}
-use borrow.Author.Rules.{rules}
 use Rattle.linenames.proofs.reference_end.Goals as goal
 
 pub returns : goal.returns

@@ -3,11 +3,8 @@ use Rattle.linenames.proofs.SearchLaws.{passes-not, passes_still, refers-found, 
 use Rattle.linenames.specs.Inner.LineNames.{passes_by}
 use Rattle.text.specs.Lines.{fields}
 use Rattle.plans.proofs.IndexLaws.{first_more, first_stop, first_end}
-use Rattle.plans.specs.Indices.{first_bad}
 use borrow.Author.Rules.{rules}
-use native.Mathlib.Omega.{arith}
-use Prim.Native.Nat.{◌-◌, ◌≤◌}
-use mathlib.Core.Path.{◌≡◌, refl, sym, ◌∙◌}
+use mathlib.Core.Path.{refl, ◌∙◌}
 use Rattle.linenames.proofs.refers_to.Goals as goal
 
 pub loop-k-init : goal.loop-k-init

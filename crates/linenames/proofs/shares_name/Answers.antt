@@ -6,8 +6,6 @@ use Rattle.plans.proofs.IndexLaws.{any-more, any_stop}
 use Rattle.plans.specs.Indices.{any}
 use borrow.Author.Rules.{rules}
 use native.Mathlib.Omega.{arith}
-use Prim.Native.Nat.{◌-◌, ◌≤◌}
-use mathlib.Core.Bool.{false}
 use mathlib.Core.Path.{◌≡◌, refl, sym, ◌∙◌}
 use Rattle.linenames.proofs.shares_name.Goals as goal
 

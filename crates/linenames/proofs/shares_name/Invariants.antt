@@ -1,14 +1,10 @@
 -- `shares_name` meets its contract.
-use Rattle.linenames.proofs.SearchLaws.{shared_is, shared_gate, shared_rest}
-use Rattle.linenames.specs.Inner.LineNames.{shares_quadrant, quad_count}
+use Rattle.linenames.specs.Inner.LineNames.{shares_quadrant}
 use Rattle.text.specs.Lines.{fields}
-use Rattle.plans.proofs.IndexLaws.{any-more, any_stop}
 use Rattle.plans.specs.Indices.{any}
-use borrow.Author.Rules.{rules}
-use native.Mathlib.Omega.{arith}
 use Prim.Native.Nat.{◌-◌, ◌≤◌}
 use mathlib.Core.Bool.{false}
-use mathlib.Core.Path.{◌≡◌, refl, sym, ◌∙◌}
+use mathlib.Core.Path.{◌≡◌}
 use Rattle.linenames.proofs.shares_name.Given as goal
 
 abbrev pub invariant-loop-q : goal.invariant-loop-q

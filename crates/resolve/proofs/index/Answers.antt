@@ -1,6 +1,5 @@
 -- `index` meets its contract: there are as many places as lines.
 use Rattle.text.proofs.LinesLaws.{line_starts-length}
-use borrow.Author.Rules.{rules}
 use mathlib.Core.Path.{sym, ◌∙◌}
 use Rattle.resolve.proofs.index.Goals as goal
 

@@ -1,6 +1,5 @@
 -- `line_at` meets its contract.
 use Rattle.resolve.specs.Inner.Reading.{line_at}
-use borrow.Author.Rules.{rules}
 use Rattle.resolve.proofs.line_at.Goals as goal
 
 pub returns : goal.returns

@@ -1,8 +1,7 @@
 -- `number_of` meets its contract: base regions are passed, and the search is among those from base on.
 use borrow.Author.Rules.{rules}
-use Rattle.resolve.proofs.NumberLaws.{Numbering, numbering_first, numbering_found, numbering_next, numbering_end, numbering_full}
+use Rattle.resolve.proofs.NumberLaws.{numbering_first, numbering_found, numbering_next, numbering_end, numbering_full}
 use native.Mathlib.Omega.{arith}
-use Prim.Native.Nat.{◌-◌, ◌<◌, ◌≤◌}
 use Rattle.resolve.proofs.number_of.Goals as goal
 
 pub loop-i-init : goal.loop-i-init

@@ -1,7 +1,5 @@
 -- `number_of` meets its contract: base regions are passed, and the search is among those from base on.
-use borrow.Author.Rules.{rules}
-use Rattle.resolve.proofs.NumberLaws.{Numbering, numbering_first, numbering_found, numbering_next, numbering_end, numbering_full}
-use native.Mathlib.Omega.{arith}
+use Rattle.resolve.proofs.NumberLaws.{Numbering}
 use Prim.Native.Nat.{◌-◌, ◌<◌, ◌≤◌}
 use Rattle.resolve.proofs.number_of.Given as goal
 

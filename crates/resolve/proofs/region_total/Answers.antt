@@ -4,7 +4,7 @@ use Rattle.resolve.proofs.CrowdLaws.{total-none, total-next, total_full}
 use Rattle.resolve.specs.Inner.Reading.{regions_at}
 use lib.ListN.{length}
 use native.Mathlib.Omega.{arith}
-use Prim.Native.Nat.{ℕ, ◌-◌, ◌<◌, ◌≤◌}
+use Prim.Native.Nat.{ℕ}
 use mathlib.Core.Path.{◌≡◌, ap, ◌∙◌}
 use Rattle.resolve.proofs.region_total.Goals as goal
 

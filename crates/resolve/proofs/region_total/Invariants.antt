@@ -1,11 +1,8 @@
 -- `region_total` meets its contract: total regions are passed, fewer than 64.
-use borrow.Author.Rules.{rules}
-use Rattle.resolve.proofs.CrowdLaws.{total-none, total-next, total_full}
 use Rattle.resolve.specs.Inner.Reading.{regions_at}
 use lib.ListN.{length}
-use native.Mathlib.Omega.{arith}
-use Prim.Native.Nat.{ℕ, ◌-◌, ◌<◌, ◌≤◌}
-use mathlib.Core.Path.{◌≡◌, ap, ◌∙◌}
+use Prim.Native.Nat.{◌-◌, ◌<◌, ◌≤◌}
+use mathlib.Core.Path.{◌≡◌}
 use Rattle.resolve.proofs.region_total.Given as goal
 
 abbrev pub invariant-loop-i : goal.invariant-loop-i

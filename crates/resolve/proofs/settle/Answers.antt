@@ -1,5 +1,4 @@
 -- `settle` meets its contract.
-use borrow.Author.Rules.{rules}
 use Rattle.resolve.proofs.settle.Goals as goal
 
 pub returns-then-b : goal.returns-then-b

@@ -1,7 +1,6 @@
 -- `starts_of` meets its contract: the places are written over 66 zeros.
 use Rattle.resolve.specs.Inner.Reading.{starts_of}
 use Rattle.text.proofs.LinesLaws.{line_starts-length}
-use borrow.Author.Rules.{rules}
 use Rattle.resolve.proofs.starts_of.Goals as goal
 
 pub returns : goal.returns

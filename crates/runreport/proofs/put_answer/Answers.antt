@@ -1,5 +1,4 @@
 -- `put_answer`: what each answer prints.
-use borrow.Author.Rules.{rules}
 use Rattle.runreport.proofs.put_answer.Goals as goal
 
 pub returns-in-Values : goal.returns-in-Values

@@ -1,5 +1,4 @@
 -- `put_counted`: the lines of the tally, or the refusal.
-use borrow.Author.Rules.{rules}
 use Rattle.runreport.proofs.RunLaws.{counted-passed, counted-refused}
 use Rattle.runreport.proofs.put_counted.Goals as goal
 

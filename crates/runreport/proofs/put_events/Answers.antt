@@ -4,7 +4,6 @@ use native.Mathlib.Omega.{arith}
 use Prim.Native.Nat.{◌≤◌}
 use lib.ListN.{length}
 use lib.Seq.{length-take-le}
-use borrow.Author.Rules.{rules}
 use Rattle.runreport.proofs.RunLaws.{width_is, count-is, count_most, values-room, values_are, events_ran}
 use Rattle.runreport.proofs.put_events.Goals as goal
 use Rattle.runreport.proofs.put_events.Goals.{After-value_count-m}

@@ -1,5 +1,4 @@
 -- `put_plan`: the refusal of the plan, or what follows one that passes.
-use borrow.Author.Rules.{rules}
 use Rattle.runreport.proofs.RunLaws.{plan-passed, plan-refused}
 use Rattle.runreport.proofs.put_plan.Goals as goal
 

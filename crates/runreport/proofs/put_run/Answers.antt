@@ -4,7 +4,6 @@ use Prim.Native.Nat.{◌≤◌}
 use native.Mathlib.Omega.{arith}
 use lib.ListN.{length, take}
 use lib.Seq.{length-take-le}
-use borrow.Author.Rules.{rules}
 use Rattle.runreport.specs.PlanReading.{words_of}
 use Rattle.runreport.proofs.RunLaws.{written-taken, part-is, run_unread, run_ran}
 use Rattle.runreport.proofs.put_run.Goals as goal

@@ -1,5 +1,4 @@
 -- `run_report`: over 131,072 bytes nothing is read, else what is printed of the input.
-use borrow.Author.Rules.{rules}
 use Rattle.runreport.proofs.RunLaws.{run_long}
 use Rattle.runreport.proofs.run_report.Goals as goal
 

@@ -1,5 +1,4 @@
 -- `parent_at` meets its contract: a region that there is stands at one of n gates.
-use borrow.Author.Rules.{rules}
 use Rattle.stepwriter.proofs.ParentLaws.{parent_located, no_parent}
 use Rattle.stepwriter.proofs.parent_at.Goals as goal
 

@@ -1,5 +1,4 @@
 -- `parent_number` meets its contract.
-use borrow.Author.Rules.{rules}
 use Rattle.writer.specs.Inner.Words.{parent_number}
 use Rattle.stepwriter.proofs.parent_number.Goals as goal
 

@@ -1,18 +1,13 @@
 -- `put_combination_step` meets its contract: the header and the first j operands are written over the beginning.
 use mathlib.Core.Path.{◌≡◌, refl, ◌∙◌, ap}
-use mathlib.Core.List.{◌++◌}
-use Prim.Native.Nat.{◌≤◌, ◌-◌, ◌+◌}
 use native.Mathlib.Omega.{arith}
 use borrow.Author.Rules.{rules}
 use lib.ListN.{length, length-set}
-use Rattle.text.specs.Bounded.{tab}
 use Rattle.text.specs.Lines.{fields}
-use Rattle.text.specs.Output.{over}
 use Rattle.text.proofs.OutputLaws.{over-length}
-use Rattle.gates.specs.Kinds.{line_kind}
-use Rattle.gates.specs.Inner.Regions.{step_number, body_length}
+use Rattle.gates.specs.Inner.Regions.{body_length}
 use Rattle.resolve.specs.Inner.Reading.{regions_at}
-use Rattle.writer.specs.Inner.Words.{header, operand_at}
+use Rattle.writer.specs.Inner.Words.{operand_at}
 use Rattle.writer.proofs.WordLaws.{body-length_le, step-length, step_begun, step-again}
 use Rattle.stepwriter.proofs.StepLaws.{operand_more}
 use Rattle.stepwriter.proofs.put_combination_step.Goals as goal
@@ -27,14 +22,13 @@ overflow_add-j c =
     omega (arith, body-length_le c.args.line.now)
 
 pub loop-j-preserved : goal.loop-j-preserved
-loop-j-preserved c =
-    (
-      search rules,
-      rw (c.put_operand.ensures, length-set) c.loop-j.invariant.1,
-      rw c.put_operand.ensures
-          (operand_more _ _ _ _ _ _ _ _ c.loop-j.invariant.2 c.operand_field-x.ensures c.operand_name.ensures c.number_of-number.ensures
-          c.is_complement.ensures),
-    )
+loop-j-preserved c = (
+  search rules,
+  rw (c.put_operand.ensures, length-set) c.loop-j.invariant.1,
+  rw c.put_operand.ensures
+      (operand_more _ _ _ _ _ _ _ _ c.loop-j.invariant.2 c.operand_field-x.ensures c.operand_name.ensures c.number_of-number.ensures
+      c.is_complement.ensures),
+)
 
 pub overflow_add-result : goal.overflow_add-result
 overflow_add-result c =

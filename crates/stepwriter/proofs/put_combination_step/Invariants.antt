@@ -1,20 +1,15 @@
 -- `put_combination_step` meets its contract: the header and the first j operands are written over the beginning.
-use mathlib.Core.Path.{◌≡◌, refl, ◌∙◌, ap}
+use mathlib.Core.Path.{◌≡◌}
 use mathlib.Core.List.{◌++◌}
-use Prim.Native.Nat.{◌≤◌, ◌-◌, ◌+◌}
-use native.Mathlib.Omega.{arith}
-use borrow.Author.Rules.{rules}
-use lib.ListN.{length, length-set}
+use Prim.Native.Nat.{◌≤◌, ◌-◌}
+use lib.ListN.{length}
 use Rattle.text.specs.Bounded.{tab}
 use Rattle.text.specs.Lines.{fields}
 use Rattle.text.specs.Output.{over}
-use Rattle.text.proofs.OutputLaws.{over-length}
 use Rattle.gates.specs.Kinds.{line_kind}
 use Rattle.gates.specs.Inner.Regions.{step_number, body_length}
 use Rattle.resolve.specs.Inner.Reading.{regions_at}
 use Rattle.writer.specs.Inner.Words.{header, operand_at}
-use Rattle.writer.proofs.WordLaws.{body-length_le, step-length, step_begun, step-again}
-use Rattle.stepwriter.proofs.StepLaws.{operand_more}
 use Rattle.stepwriter.proofs.put_combination_step.Given as goal
 
 abbrev pub invariant-loop-j : goal.invariant-loop-j

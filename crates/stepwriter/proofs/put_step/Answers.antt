@@ -1,5 +1,4 @@
 -- `put_step` meets its contract: by the kind of the line.
-use borrow.Author.Rules.{rules}
 use Rattle.stepwriter.proofs.StepLaws.{combination-written, leaf-written}
 use Rattle.stepwriter.proofs.put_step.Goals as goal
 

@@ -1,7 +1,6 @@
 -- `check_table` meets its contract: the answers one after the other.
 use Rattle.tablecheck.proofs.CursorLaws.{long-text, unended_text, bad-head, lines_next}
 use borrow.Author.Tests.{not-true, not-false}
-use borrow.Author.Rules.{rules}
 use Rattle.tablecheck.proofs.check_table.Goals as goal
 
 pub returns-then-text-gt32768 : goal.returns-then-text-gt32768

@@ -1,14 +1,10 @@
 -- `lines_refusal` meets its contract: a cursor over the gate lines, none before it refused.
-use Rattle.tablecheck.proofs.CursorLaws.{Cursor, cursor_first, cursor_next, line_refused, lines_good, lines-passed}
+use Rattle.tablecheck.proofs.CursorLaws.{cursor_first, cursor_next, line_refused, lines_good, lines-passed}
 use Rattle.tablecheck.proofs.LineNumberLaws.{refusal-listed}
 use Rattle.text.specs.Lines.{fields}
 use Rattle.text.proofs.LinesLaws.{find_from_lem, find_inside}
-use borrow.Author.Rules.{rules}
-use lib.ListN.{length, drop}
+use lib.ListN.{drop}
 use native.Mathlib.Omega.{arith}
-use Prim.Native.Nat.{◌+◌, ◌-◌}
-use mathlib.Core.List.{List}
-use Prim.Native.Nat.{ℕ}
 use Rattle.tablecheck.proofs.lines_refusal.Goals as goal
 
 pub overflow_add-at : goal.overflow_add-at

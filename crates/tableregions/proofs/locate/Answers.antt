@@ -1,14 +1,10 @@
 -- `locate` meets its contract: what is left of r behind the gates before i, each of which ends before region r.
 use Rattle.tableregions.proofs.PlaceLaws.{first-left, next-left, ended, not-ended, located_as}
 use Rattle.tableregions.specs.Inner.Located.{ends_before}
-use Rattle.resolve.specs.Inner.Reading.{regions_at}
-use Rattle.plans.specs.Indices.{first_bad}
 use Rattle.plans.proofs.IndexLaws.{first_more, first_stop, first_end}
 use borrow.Author.Rules.{rules}
-use lib.ListN.{length}
 use native.Mathlib.Nat.{sub-zero}
 use native.Mathlib.Omega.{arith}
-use Prim.Native.Nat.{◌+◌, ◌-◌, ◌≤◌}
 use mathlib.Core.Path.{◌≡◌, ◌∙◌}
 use Rattle.tableregions.proofs.locate.Goals as goal
 

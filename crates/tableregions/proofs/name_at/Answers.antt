@@ -1,7 +1,6 @@
 -- `name_at` meets its contract: a region that there is stands at one of n gates.
 use Rattle.tableregions.proofs.PlaceLaws.{named-at, no_region_lem}
 use Rattle.gates.specs.Gate.{Region}
-use borrow.Author.Rules.{rules}
 use mathlib.Core.Path.{sym, ap}
 use Rattle.tableregions.proofs.name_at.Goals as goal
 

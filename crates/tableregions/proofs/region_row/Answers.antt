@@ -1,6 +1,6 @@
 -- `region_row` meets its contract: the numbers of the references in the fields before k are gathered.
 use Rattle.tableregions.proofs.PlaceLaws.{no_region_lem}
-use Rattle.tableregions.proofs.ReferenceLaws.{Gathered, gathered-more, gathered-all}
+use Rattle.tableregions.proofs.ReferenceLaws.{gathered-more, gathered-all}
 use Rattle.tableregions.specs.Inner.Located.{with_numbers, row_of}
 use Rattle.text.specs.Lines.{fields}
 use Rattle.gates.specs.Gate.{Region}
@@ -8,7 +8,6 @@ use Rattle.tables.specs.Table.{references}
 use Rattle.resolve.specs.Inner.Reading.{regions_at}
 use borrow.Author.Rules.{rules}
 use native.Mathlib.Omega.{arith}
-use Prim.Native.Nat.{◌-◌, ◌≤◌}
 use mathlib.Core.Path.{refl, sym, ap}
 use Rattle.tableregions.proofs.region_row.Goals as goal
 

@@ -2,14 +2,11 @@
 use Rattle.tableregions.specs.Inner.Located.{row_of}
 use Rattle.graph.specs.Inner.Rows.{zero_rows}
 use Rattle.graph.proofs.RowLaws.{all_written}
-use Rattle.text.specs.Bounded.{tab}
 use Rattle.text.specs.Output.{over}
 use Rattle.text.proofs.BoundedLaws.{tab-more}
 use Rattle.resolve.specs.Inner.Reading.{regions_at}
-use lib.ListN.{length}
 use borrow.Author.Rules.{rules}
 use native.Mathlib.Omega.{arith}
-use Prim.Native.Nat.{◌-◌, ◌≤◌}
 use mathlib.Core.Path.{◌≡◌, ◌∙◌}
 use Rattle.tableregions.proofs.region_rows.Goals as goal
 

@@ -1,16 +1,11 @@
 -- `region_rows` meets its contract: the rows before r are written over 64 zeros.
 use Rattle.tableregions.specs.Inner.Located.{row_of}
 use Rattle.graph.specs.Inner.Rows.{zero_rows}
-use Rattle.graph.proofs.RowLaws.{all_written}
 use Rattle.text.specs.Bounded.{tab}
 use Rattle.text.specs.Output.{over}
-use Rattle.text.proofs.BoundedLaws.{tab-more}
 use Rattle.resolve.specs.Inner.Reading.{regions_at}
-use lib.ListN.{length}
-use borrow.Author.Rules.{rules}
-use native.Mathlib.Omega.{arith}
 use Prim.Native.Nat.{◌-◌, ◌≤◌}
-use mathlib.Core.Path.{◌≡◌, ◌∙◌}
+use mathlib.Core.Path.{◌≡◌}
 use Rattle.tableregions.proofs.region_rows.Given as goal
 
 abbrev pub invariant-loop-r : goal.invariant-loop-r

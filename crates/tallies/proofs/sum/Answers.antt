@@ -1,6 +1,6 @@
 -- `sum`: the counts below r are sums, those from r on the first tally's.
-use Rattle.std.proofs.Common.{◌≡◌, ◌-◌, ◌<◌, ◌≤◌, length, arith, rules}
-use Rattle.tallies.proofs.AddingLaws.{Added, added_none, added_next, added_all}
+use Rattle.std.proofs.Common.{◌≡◌, ◌<◌, length, arith, rules}
+use Rattle.tallies.proofs.AddingLaws.{added_none, added_next, added_all}
 use Rattle.tallies.proofs.sum.Goals as goal
 
 pub loop-r-init : goal.loop-r-init

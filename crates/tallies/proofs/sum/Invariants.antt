@@ -1,6 +1,6 @@
 -- `sum`: the counts below r are sums, those from r on the first tally's.
-use Rattle.std.proofs.Common.{◌≡◌, ◌-◌, ◌<◌, ◌≤◌, length, arith, rules}
-use Rattle.tallies.proofs.AddingLaws.{Added, added_none, added_next, added_all}
+use Rattle.std.proofs.Common.{◌-◌, ◌≤◌}
+use Rattle.tallies.proofs.AddingLaws.{Added}
 use Rattle.tallies.proofs.sum.Given as goal
 
 abbrev pub invariant-loop-r : goal.invariant-loop-r

@@ -1,5 +1,5 @@
 -- `of`: the sign in each bit of the high word.
-use Rattle.std.proofs.Common.{ℕ, ◌+◌, ◌*◌, ◌^◌, ◌∙◌, ap₂, to_z-of_z, to_z, rules}
+use Rattle.std.proofs.Common.{ℕ, ◌+◌, ◌*◌, ◌^◌, ◌∙◌, ap₂, to_z-of_z, to_z}
 use mir.Syntax.{w128}
 use Rattle.wide.specs.Inner.Values.{value}
 use Rattle.wide.proofs.SignLaws.{when_below, extended}

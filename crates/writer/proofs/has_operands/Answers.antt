@@ -1,5 +1,4 @@
 -- `has_operands`: by the kind of the line.
-use borrow.Author.Rules.{rules}
 use Rattle.writer.proofs.has_operands.Goals as goal
 
 pub returns : goal.returns

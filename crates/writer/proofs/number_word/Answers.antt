@@ -2,7 +2,6 @@
 use native.Mathlib.Omega.{arith}
 use mir.Syntax.{w32}
 use mir.ValLaws.{to_z_pos}
-use borrow.Author.Rules.{rules}
 use Rattle.writer.specs.Inner.Words.{number_word}
 use Rattle.writer.proofs.number_word.Goals as goal
 

@@ -2,7 +2,6 @@
 use native.Mathlib.Omega.{arith}
 use mir.Syntax.{w32}
 use mir.ValLaws.{to_z-of_z}
-use borrow.Author.Rules.{rules}
 use Rattle.writer.specs.Inner.Words.{operand_number_word}
 use Rattle.writer.proofs.WordLaws.{twice-held}
 use Rattle.writer.proofs.operand_word.Goals as goal

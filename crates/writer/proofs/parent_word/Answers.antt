@@ -1,6 +1,5 @@
 -- `parent_word`: a region, or none from 64 on.
 use native.Mathlib.Omega.{arith}
-use borrow.Author.Rules.{rules}
 use borrow.Author.Tests.{lt-ltb, le-ltb}
 use mir.Syntax.{w32}
 use mir.ValLaws.{to_z_pos}

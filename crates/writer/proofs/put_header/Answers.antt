@@ -3,7 +3,6 @@ use mathlib.Core.Path.{refl}
 use native.Mathlib.Omega.{arith}
 use mir.Syntax.{w32}
 use mir.ValLaws.{to_z_pos, to_z-of_z}
-use borrow.Author.Rules.{rules}
 use Rattle.writer.specs.Inner.Words.{header}
 use Rattle.writer.proofs.WordLaws.{four-words}
 use Rattle.writer.proofs.put_header.Goals as goal

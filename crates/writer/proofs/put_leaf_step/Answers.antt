@@ -4,7 +4,6 @@ use lib.ListN.{drop}
 use Rattle.text.specs.Lines.{fields}
 use Rattle.text.proofs.BoundedLaws.{length-tab}
 use Rattle.gates.specs.Inner.Regions.{body_length, body_word_of}
-use borrow.Author.Rules.{rules}
 use Rattle.writer.proofs.WordLaws.{body-length_le, step-length, step_cut, step-joined}
 use Rattle.writer.proofs.put_leaf_step.Goals as goal
 

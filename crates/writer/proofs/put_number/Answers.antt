@@ -1,7 +1,6 @@
 -- `put_number`: one word, the number's.
 use mir.Syntax.{w32}
 use mir.ValLaws.{to_z-of_z}
-use borrow.Author.Rules.{rules}
 use Rattle.writer.proofs.put_number.Goals as goal
 
 pub returns : goal.returns

@@ -1,7 +1,6 @@
 -- `put_operand`: one word, the operand's.
 use mir.Syntax.{w32}
 use mir.ValLaws.{to_z-of_z}
-use borrow.Author.Rules.{rules}
 use Rattle.writer.proofs.put_operand.Goals as goal
 
 pub returns : goal.returns

@@ -1,6 +1,5 @@
 -- `put_word` meets its contract: behind the end nothing is put.
 use mathlib.Core.Path.{sym}
-use borrow.Author.Rules.{rules}
 use lib.Seq.{set_out}
 use Rattle.writer.proofs.put_word.Goals as goal
 

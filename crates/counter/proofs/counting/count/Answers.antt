@@ -2,7 +2,6 @@
 use mathlib.Core.Path.{sym, ◌∙◌}
 use Rattle.counter.proofs.JudgeLaws.{check_passed}
 use Rattle.counter.proofs.TallyLaws.{count-passed-is, count-refused-is}
-use borrow.Author.Rules.{rules}
 use Rattle.counter.proofs.counting.count.Goals as goal
 
 pub count_passed-requires : goal.count_passed-requires

@@ -13,7 +13,6 @@ use Rattle.wide.proofs.SumLaws.{sum_needs, sum-gives, plus-is}
 use Rattle.counter.specs.DecimalEllipse.{decimal_left, decimal_right, decimal_ellipse_position}
 use Rattle.counter.specs.Inner.Steps.{position_by}
 use Rattle.counter.proofs.PositionLaws.{order_sides}
-use borrow.Author.Rules.{rules}
 use Rattle.counter.proofs.decimal_ellipse.decimal_ellipse_position.Goals as goal
 use Rattle.counter.proofs.decimal_ellipse.decimal_ellipse_position.Goals.{Start}
 

@@ -17,7 +17,6 @@ use Rattle.counter.specs.Ellipsoid.{ellipsoid_left, ellipsoid_right, ellipsoid_p
 use Rattle.counter.specs.Inner.Steps.{position_by}
 use Rattle.counter.proofs.EllipsoidLaws.{gathered-is}
 use Rattle.counter.proofs.PositionLaws.{order_sides}
-use borrow.Author.Rules.{rules}
 use Rattle.counter.proofs.ellipsoid.ellipsoid_position.Goals as goal
 use Rattle.counter.proofs.ellipsoid.ellipsoid_position.Goals.{Start}
 

@@ -1,16 +1,11 @@
 -- `bump`: the counts below r are the new ones, those from r on the old.
-use mathlib.Core.Path.{◌≡◌, refl, ap, ◌∙◌}
-use mathlib.Core.Bool.{cond}
-use mathlib.Core.List.{List, ◌++◌}
-use Prim.Native.Nat.{ℕ, ◌+◌, ◌-◌, ◌/◌, ◌%◌, ◌^◌, ◌<◌, ◌≤◌}
-use native.Mathlib.Omega.{arith}
-use lib.ListN.{get_or, drop, set}
-use Rattle.plans.specs.Bits.{has_bit}
+use mathlib.Core.Path.{◌≡◌}
+use mathlib.Core.List.{◌++◌}
+use Prim.Native.Nat.{◌-◌, ◌≤◌}
+use lib.ListN.{drop}
 use Rattle.counter.specs.Counting.{list_from}
 use Rattle.counter.specs.Inner.Groups.{in_set}
 use Rattle.counter.specs.Inner.Raising.{bump_at}
-use Rattle.counter.proofs.TableLaws.{plus-odd, bump_read, bump_write, bump_done}
-use borrow.Author.Rules.{rules}
 use Rattle.counter.proofs.groups.bump.Given as goal
 
 abbrev pub invariant-loop-r : goal.invariant-loop-r

@@ -171,8 +171,8 @@ loop-e-preserved c =
     let raised = plus-odd (unclaimed in-loop-e / 2 ^ e in-loop-e) (t in-loop-e).unclaimed in (
       search rules,
       elim c.if-bit_in.branch [
-        then-bit_in bumped ↦ more-taken in-loop-e (bit ∙ bumped.if-bit_in.true) (bumped.t-is ∙ rw (← bumped.bump.ensures, raised))
-      | else-bit_in spoilt ↦ more-spoilt in-loop-e (bit ∙ spoilt.if-bit_in.false) spoilt.t-is
+        | then-bit_in bumped ↦ more-taken in-loop-e (bit ∙ bumped.if-bit_in.true) (bumped.t-is ∙ rw (← bumped.bump.ensures, raised))
+        | else-bit_in spoilt ↦ more-spoilt in-loop-e (bit ∙ spoilt.if-bit_in.false) spoilt.t-is
       ],
     )
 

@@ -6,7 +6,6 @@ use native.Mathlib.Nat.{mod-eq_of_lt, one-mul}
 use lib.Pow.{pow_pos, pow_mono, high_ones}
 use Rattle.counter.specs.Inner.Groups.{from_to}
 use Rattle.counter.proofs.SetLaws.{has_from-to}
-use borrow.Author.Rules.{rules}
 use Rattle.counter.proofs.groups.from_to.Goals as goal
 use Rattle.counter.proofs.groups.from_to.Goals.{Start}
 

@@ -1,10 +1,6 @@
 -- `in_none`: rest has the events taken that are in none of the sets before the q-th.
-use mathlib.Core.Path.{◌≡◌}
 use Prim.Native.Nat.{◌-◌, ◌≤◌}
-use native.Mathlib.Omega.{arith}
 use Rattle.counter.specs.Inner.Groups.{Those, in_none}
-use Rattle.counter.proofs.GroupLaws.{in_none_start, in_none-next}
-use borrow.Author.Rules.{rules}
 use Rattle.counter.proofs.groups.in_none.Given as goal
 
 abbrev pub invariant-loop-q : goal.invariant-loop-q

@@ -1,11 +1,10 @@
 -- `on_scale`: good says whether the values before the i-th are on the scale.
 use mathlib.Core.Path.{◌≡◌, refl, ◌∙◌}
-use Prim.Native.Nat.{◌≤◌, ◌-◌}
 use native.Mathlib.Omega.{arith}
 use native.Mathlib.Numerals.{add-one}
 use lib.ListN.{length}
 use Rattle.plans.specs.Indices.{all}
-use Rattle.counter.specs.Judging.{value_good, taken}
+use Rattle.counter.specs.Judging.{taken}
 use Rattle.counter.proofs.ReadLaws.{value-more}
 use borrow.Author.Rules.{rules}
 use Rattle.counter.proofs.groups.on_scale.Goals as goal

@@ -7,8 +7,7 @@ use Rattle.plans.specs.Form.{step_count, region_at, length_at, next_at}
 use Rattle.counter.specs.Inner.Steps.{Sound, AllSound}
 use Rattle.counter.proofs.SoundLaws.{passing, four-inside, region-below, length-below}
 use Rattle.counter.proofs.StepLaws.{now-sound}
-use Rattle.counter.proofs.GroupLaws.{Settling, settling_start, settling_next, settling_done}
-use borrow.Author.Rules.{rules}
+use Rattle.counter.proofs.GroupLaws.{settling_start, settling_next, settling_done}
 use Rattle.counter.proofs.groups.sets_of.Goals as goal
 use Rattle.counter.proofs.groups.sets_of.Goals.{After-number_in-r, In-loop-left}
 

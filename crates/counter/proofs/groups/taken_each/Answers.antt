@@ -6,7 +6,6 @@ use native.Mathlib.Omega.{arith}
 use lib.IntN.{ℤ}
 use lib.ListN.{length, take, drop}
 use Rattle.counter.specs.Counting.{event_at, taken_at}
-use Rattle.counter.specs.Inner.Groups.{SetOf, first_of}
 use Rattle.counter.proofs.TallyLaws.{event-inside}
 use Rattle.counter.proofs.GroupLaws.{event-part, first_next}
 use borrow.Author.Rules.{rules}

@@ -3,10 +3,7 @@ use mathlib.Core.Path.{◌≡◌}
 use Prim.Native.Nat.{◌+◌, ◌-◌, ◌≤◌}
 use native.Mathlib.Omega.{arith}
 use native.Mathlib.Nat.{mul-le-mul_right}
-use Rattle.counter.specs.Counting.{taken_at}
-use Rattle.counter.specs.Inner.Groups.{SetOf, first_of}
 use Rattle.counter.proofs.GroupLaws.{first-none}
-use borrow.Author.Rules.{rules}
 use Rattle.counter.proofs.groups.taken_of.Goals as goal
 use Rattle.counter.proofs.groups.taken_of.Goals.{After-least}
 

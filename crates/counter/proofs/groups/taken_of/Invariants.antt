@@ -1,12 +1,7 @@
 -- `taken_of`: taken has the events taken of those before the e-th.
-use mathlib.Core.Path.{◌≡◌}
-use Prim.Native.Nat.{◌+◌, ◌-◌, ◌≤◌}
-use native.Mathlib.Omega.{arith}
-use native.Mathlib.Nat.{mul-le-mul_right}
+use Prim.Native.Nat.{◌-◌, ◌≤◌}
 use Rattle.counter.specs.Counting.{taken_at}
 use Rattle.counter.specs.Inner.Groups.{SetOf, first_of}
-use Rattle.counter.proofs.GroupLaws.{first-none}
-use borrow.Author.Rules.{rules}
 use Rattle.counter.proofs.groups.taken_of.Given as goal
 
 abbrev pub invariant-loop-e : goal.invariant-loop-e

@@ -5,7 +5,6 @@ use native.Mathlib.Omega.{arith}
 use native.Mathlib.Nat.{mul-le-mul_right, le_of_lt}
 use Rattle.plans.specs.Words.{part}
 use Rattle.counter.proofs.GroupLaws.{all_taken, first-from-to}
-use borrow.Author.Rules.{rules}
 use Rattle.counter.proofs.groups.taken_some.Goals as goal
 use Rattle.counter.proofs.groups.taken_some.Goals.{Start}
 

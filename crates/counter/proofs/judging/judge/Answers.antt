@@ -1,7 +1,6 @@
 -- `judge`: the check's refusal, or the judgement by a plan that passes.
 use mathlib.Core.Path.{sym, ◌∙◌}
 use Rattle.counter.proofs.JudgeLaws.{check_passed, judge_passed-is, judge_refused-is}
-use borrow.Author.Rules.{rules}
 use Rattle.counter.proofs.judging.judge.Goals as goal
 
 pub judge_passed-requires : goal.judge_passed-requires

@@ -8,7 +8,6 @@ use Rattle.plans.specs.Form.{width}
 use Rattle.counter.specs.Counting.{tally_of}
 use Rattle.counter.proofs.SoundLaws.{passing}
 use Rattle.counter.proofs.TallyLaws.{events-inside, tally-none, ragged, counted}
-use borrow.Author.Rules.{rules}
 use Rattle.counter.proofs.passing.count_passed.Goals as goal
 use Rattle.counter.proofs.passing.count_passed.Goals.{After-least-g}
 
@@ -76,15 +75,14 @@ module _ (after-least : After-least-g) where
 
 pub count_group-t-requires : goal.count_group-t-requires
 unfolding width
-count_group-t-requires c =
-    (
-      c.requires,
-      c.number_in-n.ensures,
-      c.loop-rest.invariant.1,
-      let q = c.least-g.ensures in omega arith,
-      events-inside (length c.args.events.now) (n c) (j c + g c) (inside c),
-      fits c,
-    )
+count_group-t-requires c = (
+  c.requires,
+  c.number_in-n.ensures,
+  c.loop-rest.invariant.1,
+  let q = c.least-g.ensures in omega arith,
+  events-inside (length c.args.events.now) (n c) (j c + g c) (inside c),
+  fits c,
+)
 
 pub overflow_add-j : goal.overflow_add-j
 overflow_add-j c = let f = fits (goal.at.overflow_add-j c).After-least-g in omega arith

@@ -1,14 +1,8 @@
 -- `count_passed`: the tally is that of the events before the j-th.
-use mathlib.Core.Path.{◌≡◌, ap, ◌∙◌}
-use Prim.Native.Nat.{ℕ, ◌<◌, ◌≤◌, ◌/◌, ◌+◌, ◌^◌}
-use native.Mathlib.Omega.{arith}
-use native.Mathlib.Nat.{div-le_self}
+use mathlib.Core.Path.{◌≡◌}
+use Prim.Native.Nat.{◌/◌, ◌+◌}
 use lib.ListN.{length}
-use Rattle.plans.specs.Form.{width}
 use Rattle.counter.specs.Counting.{tally_of}
-use Rattle.counter.proofs.SoundLaws.{passing}
-use Rattle.counter.proofs.TallyLaws.{events-inside, tally-none, ragged, counted}
-use borrow.Author.Rules.{rules}
 use Rattle.counter.proofs.passing.count_passed.Given as goal
 
 abbrev pub invariant-loop-rest : goal.invariant-loop-rest

@@ -1,11 +1,8 @@
 -- `first_spoilt`: the values before the i-th are on the scale.
-use mathlib.Core.Path.{◌≡◌, sym, ◌∙◌}
-use Prim.Native.Nat.{◌≤◌, ◌-◌}
+use mathlib.Core.Path.{sym, ◌∙◌}
 use native.Mathlib.Nat.{sub-zero}
-use lib.ListN.{length}
-use Rattle.plans.specs.Indices.{first_bad}
 use Rattle.plans.proofs.IndexLaws.{first_more, first_stop, first_end}
-use Rattle.counter.specs.Judging.{value_good, first_spoilt}
+use Rattle.counter.specs.Judging.{first_spoilt}
 use Rattle.counter.proofs.ReadLaws.{value_off, value_on}
 use borrow.Author.Rules.{rules}
 use Rattle.counter.proofs.passing.first_spoilt.Goals as goal

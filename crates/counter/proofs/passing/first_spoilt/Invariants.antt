@@ -1,13 +1,9 @@
 -- `first_spoilt`: the values before the i-th are on the scale.
-use mathlib.Core.Path.{◌≡◌, sym, ◌∙◌}
+use mathlib.Core.Path.{◌≡◌}
 use Prim.Native.Nat.{◌≤◌, ◌-◌}
-use native.Mathlib.Nat.{sub-zero}
 use lib.ListN.{length}
 use Rattle.plans.specs.Indices.{first_bad}
-use Rattle.plans.proofs.IndexLaws.{first_more, first_stop, first_end}
 use Rattle.counter.specs.Judging.{value_good, first_spoilt}
-use Rattle.counter.proofs.ReadLaws.{value_off, value_on}
-use borrow.Author.Rules.{rules}
 use Rattle.counter.proofs.passing.first_spoilt.Given as goal
 
 abbrev pub invariant-loop-i : goal.invariant-loop-i

@@ -4,7 +4,6 @@ use mathlib.Core.Path.{◌∙◌}
 use Rattle.plans.specs.Form.{width}
 use Rattle.counter.proofs.SoundLaws.{passing}
 use Rattle.counter.proofs.JudgeLaws.{other_length, off_scale, is-judged, values_on_scale}
-use borrow.Author.Rules.{rules}
 use Rattle.counter.proofs.passing.judge_passed.Goals as goal
 
 pub number_in-n-requires : goal.number_in-n-requires
@@ -26,12 +25,11 @@ returns-then-i-m c =
 
 pub bits_of-requires : goal.bits_of-requires
 unfolding width
-bits_of-requires c =
-    (
-      c.requires,
-      c.if-m-n.false ∙ c.number_in-n.ensures,
-      values_on_scale c.args.event.now (rw c.first_spoilt-i.ensures at c.if-i-m.false),
-    )
+bits_of-requires c = (
+  c.requires,
+  c.if-m-n.false ∙ c.number_in-n.ensures,
+  values_on_scale c.args.event.now (rw c.first_spoilt-i.ensures at c.if-i-m.false),
+)
 
 pub returns : goal.returns
 returns c =

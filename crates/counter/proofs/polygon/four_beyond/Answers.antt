@@ -7,7 +7,6 @@ use mir.Val.{SFits}
 use mir.Facts.{to_z-of_z}
 use Rattle.counter.specs.Inner.Walks.{beyond, four_beyond}
 use Rattle.counter.proofs.PolygonLaws.{scale_fits}
-use borrow.Author.Rules.{rules}
 use Rattle.counter.proofs.polygon.four_beyond.Goals as goal
 use Rattle.counter.proofs.polygon.four_beyond.Goals.{Start}
 

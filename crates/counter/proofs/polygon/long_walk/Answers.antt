@@ -1,20 +1,17 @@
 -- `long_walk`: after each stretch the sum is what `walked` holds.
 use mathlib.Core.Path.{◌≡◌, refl, sym, ap, ◌∙◌}
-use mathlib.Core.List.{List}
-use Prim.Native.Nat.{ℕ, ◌+◌, ◌-◌, ◌/◌, ◌%◌, ◌<◌, ◌≤◌}
+use Prim.Native.Nat.{ℕ, ◌+◌, ◌-◌, ◌/◌, ◌<◌, ◌≤◌}
 use native.Mathlib.Omega.{arith}
 use native.Mathlib.Decide.{dec_lt}
-use lib.IntN.{ℤ}
 use lib.ListN.{length}
 use mir.Syntax.{w32, w64}
-use mir.Val.{Fits, to_z, of_z}
+use mir.Val.{to_z, of_z}
 use mir.Facts.{to_z-of_z, sfits_lit}
 use Rattle.integers.proofs.Bounds.{fit-below}
 use Rattle.counter.specs.Walk.{walked}
 use Rattle.counter.specs.Inner.Walks.{Apart, Stretch}
 use Rattle.counter.specs.declared.polygon.Walked.TheVariants.{Summed}
 use Rattle.counter.proofs.WalkLaws.{walked_start, walked_in, walked-carried}
-use borrow.Author.Rules.{rules}
 use Rattle.counter.proofs.polygon.long_walk.Goals as goal
 use Rattle.counter.proofs.polygon.long_walk.Goals.{After-run_end-start, After-walk, In-loop-i}
 

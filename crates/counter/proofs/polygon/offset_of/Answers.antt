@@ -8,7 +8,6 @@ use Rattle.integers.specs.Inner.Expressions.{Ex, var, ◌⊖◌}
 use Rattle.integers.specs.Inner.Machine.{Var, short, All, Needs}
 use Rattle.integers.proofs.Bounds.{in_mag}
 use Rattle.integers.proofs.Overflow.{zneeds, zgives}
-use borrow.Author.Rules.{rules}
 use Rattle.counter.proofs.polygon.offset_of.Goals as goal
 use Rattle.counter.proofs.polygon.offset_of.Goals.{Start}
 

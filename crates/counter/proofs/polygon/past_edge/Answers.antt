@@ -13,7 +13,6 @@ use Rattle.integers.proofs.Equality.{eqb-bits}
 use Rattle.counter.specs.Polygon.{between}
 use Rattle.counter.specs.Inner.Walks.{turn_for}
 use Rattle.counter.proofs.WalkLaws.{edge_carries, edge_on_line, edge_aside, turn_for_in}
-use borrow.Author.Rules.{rules}
 use Rattle.counter.specs.Inner.Walks.{Near}
 use Rattle.counter.specs.declared.polygon.Offset.{Offset}
 use Rattle.counter.proofs.polygon.past_edge.Goals as goal

@@ -4,7 +4,6 @@ use native.Mathlib.Omega.{arith}
 use mir.Facts.{to_z-of_z}
 use Rattle.counter.specs.Walk.{found}
 use Rattle.counter.proofs.WalkLaws.{walked_start, walked_all}
-use borrow.Author.Rules.{rules}
 use Rattle.counter.proofs.polygon.polygon_position.Goals as goal
 
 pub walk-requires : goal.walk-requires

@@ -1,20 +1,10 @@
 -- `run_end`: the edges up to the k-th vertex are passed, and the vertex before that one lies on the side of the height that the loop began on.
-use mathlib.Core.Path.{◌≡◌, sym, ◌∙◌}
+use mathlib.Core.Path.{◌≡◌}
 use mathlib.Core.Bool.{true}
-use mathlib.Core.List.{List}
-use Prim.Native.Nat.{ℕ, ◌+◌, ◌-◌, ◌<◌}
-use native.Mathlib.Omega.{arith}
-use borrow.Author.Tests.{ne_eqb, not-false}
-use lib.IntN.{ℤ, pos}
+use Prim.Native.Nat.{◌+◌, ◌-◌}
+use lib.IntN.{pos}
 use lib.ListN.{length, get_or}
-use lib.Signed.{lt_z}
-use mir.Syntax.{w32}
-use mir.Val.{SFits, to_z}
-use mir.Facts.{to_z-of_z}
-use Rattle.integers.proofs.Equality.{eqb-bits}
 use Rattle.counter.specs.Inner.Walks.{vertex_before, beyond, Apart}
-use Rattle.counter.proofs.PolygonLaws.{scale_fits, differs-beyond}
-use Rattle.counter.proofs.WalkLaws.{before_in, apart_none, apart_more}
 use Rattle.counter.proofs.polygon.run_end.Given as goal
 
 abbrev pub invariant-loop-k : goal.invariant-loop-k

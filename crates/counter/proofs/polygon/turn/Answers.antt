@@ -7,7 +7,7 @@ use mir.Syntax.{w64}
 use mir.Val.{SFits, to_z, bool_byte}
 use mir.Facts.{to_z-of_z}
 use Rattle.integers.proofs.Bounds.{fit, in_sub}
-use Rattle.counter.specs.Inner.Walks.{one, one_of}
+use Rattle.counter.specs.Inner.Walks.{one_of}
 use Rattle.counter.proofs.PolygonLaws.{one_bit, one_in}
 use borrow.Author.Rules.{rules}
 use Rattle.counter.proofs.polygon.turn.Goals as goal

@@ -1,7 +1,6 @@
 -- `vertex_before`: the last vertex before the first, else the one two words before.
 use Rattle.counter.specs.Inner.Walks.{vertex_before}
 use Rattle.counter.proofs.WalkLaws.{before-later}
-use borrow.Author.Rules.{rules}
 use Rattle.counter.proofs.polygon.vertex_before.Goals as goal
 
 pub returns-then-i-eq0 : goal.returns-then-i-eq0

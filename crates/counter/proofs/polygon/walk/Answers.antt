@@ -1,20 +1,19 @@
 -- `walk`: after each edge the sum is what `walked` holds, and the point is seen from the last vertex.
 use mathlib.Core.Path.{◌≡◌, refl, sym, ap, ◌∙◌}
 use mathlib.Core.List.{List}
-use Prim.Native.Nat.{ℕ, ◌+◌, ◌-◌, ◌/◌, ◌%◌, ◌<◌, ◌≤◌}
+use Prim.Native.Nat.{ℕ, ◌+◌, ◌-◌, ◌/◌, ◌<◌}
 use native.Mathlib.Omega.{arith}
 use lib.IntN.{ℤ, pos}
 use lib.ListN.{length, get_or}
-use mir.Syntax.{w32, w64}
-use mir.Val.{Fits, to_z}
-use mir.Facts.{to_z-of_z, Fits-of_z}
+use mir.Syntax.{w64}
+use mir.Val.{to_z}
+use mir.Facts.{to_z-of_z}
 use Rattle.integers.proofs.Bounds.{fit-below}
 use Rattle.counter.specs.Walk.{walked, past}
 use Rattle.counter.specs.Inner.Walks.{SeenFrom, Near, vertex_before}
 use Rattle.counter.specs.declared.polygon.Offset.{Offset}
 use Rattle.counter.specs.declared.polygon.Walked.TheVariants.{Summed}
 use Rattle.counter.proofs.WalkLaws.{edge_at, before_in, before-next, walked-edge, walked_in, walked-carried, seen-near}
-use borrow.Author.Rules.{rules}
 use Rattle.counter.proofs.polygon.walk.Invariants.{SeenBefore}
 use Rattle.counter.proofs.polygon.walk.Goals as goal
 use Rattle.counter.proofs.polygon.walk.Goals.{After-offset_of-next, After-past_edge, In-loop-i}

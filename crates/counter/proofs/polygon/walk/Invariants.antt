@@ -1,20 +1,15 @@
 -- `walk`: after each edge the sum is what `walked` holds, and the point is seen from the last vertex.
-use mathlib.Core.Path.{◌≡◌, refl, sym, ap, ◌∙◌}
+use mathlib.Core.Path.{◌≡◌}
 use mathlib.Core.List.{List}
-use Prim.Native.Nat.{ℕ, ◌+◌, ◌-◌, ◌/◌, ◌%◌, ◌<◌, ◌≤◌}
-use native.Mathlib.Omega.{arith}
+use Prim.Native.Nat.{ℕ, ◌+◌, ◌-◌, ◌/◌, ◌%◌, ◌≤◌}
 use lib.IntN.{ℤ, pos}
 use lib.ListN.{length, get_or}
-use mir.Syntax.{w32, w64}
+use mir.Syntax.{w64}
 use mir.Val.{SFits}
-use mir.Facts.{to_z-of_z, Fits-of_z}
-use Rattle.integers.proofs.Bounds.{fit-below}
-use Rattle.counter.specs.Walk.{walked, past}
-use Rattle.counter.specs.Inner.Walks.{SeenFrom, Near, vertex_before}
+use Rattle.counter.specs.Walk.{walked}
+use Rattle.counter.specs.Inner.Walks.{SeenFrom, vertex_before}
 use Rattle.counter.specs.declared.polygon.Offset.{Offset}
 use Rattle.counter.specs.declared.polygon.Walked.TheVariants.{Summed}
-use Rattle.counter.proofs.WalkLaws.{edge_at, before_in, before-next, walked-edge, walked_in, walked-carried, seen-near}
-use borrow.Author.Rules.{rules}
 use Rattle.counter.proofs.polygon.walk.Given as goal
 
 -- the point, seen from the vertex before the one at i

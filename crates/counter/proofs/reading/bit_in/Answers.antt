@@ -1,7 +1,6 @@
 -- `bit_in` is `has_bit`.
 use mathlib.Core.Path.{refl}
 use Rattle.plans.specs.Bits.{has_bit}
-use borrow.Author.Rules.{rules}
 use Rattle.counter.proofs.reading.bit_in.Goals as goal
 
 pub returns : goal.returns

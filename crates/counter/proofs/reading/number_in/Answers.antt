@@ -1,6 +1,5 @@
 -- `number_in`: a word whose number is below 4,097 is not negative.
 use Rattle.counter.proofs.ReadLaws.{read-cast, read_number_lem}
-use borrow.Author.Rules.{rules}
 use Rattle.counter.proofs.reading.number_in.Goals as goal
 
 pub overflow_cast-result : goal.overflow_cast-result

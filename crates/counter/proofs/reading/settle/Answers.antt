@@ -1,5 +1,4 @@
 -- `settle`: the bit of the answer, shifted by r, is 2^r or 0.
-use borrow.Author.Rules.{rules}
 use Rattle.counter.proofs.StepLaws.{with_answer}
 use Rattle.counter.proofs.reading.settle.Goals as goal
 

@@ -1,9 +1,7 @@
 -- `all_of`: rest has the events that are in the operands before the i-th.
 use mathlib.Core.Path.{◌≡◌}
-use Prim.Native.Nat.{◌≤◌, ◌-◌}
 use native.Mathlib.Omega.{arith}
 use lib.ListN.{length}
-use Rattle.counter.specs.Inner.Groups.{Those, all_at}
 use Rattle.counter.proofs.GroupLaws.{all_none, all-next}
 use borrow.Author.Rules.{rules}
 use Rattle.counter.proofs.sets.all_of.Goals as goal

@@ -1,9 +1,7 @@
 -- `any_of`: found has the events that are in some operand before the i-th.
 use mathlib.Core.Path.{◌≡◌}
-use Prim.Native.Nat.{◌≤◌, ◌-◌}
 use native.Mathlib.Omega.{arith}
 use lib.ListN.{length}
-use Rattle.counter.specs.Inner.Groups.{SetOf, any_at}
 use Rattle.counter.proofs.GroupLaws.{any_none, any_next}
 use borrow.Author.Rules.{rules}
 use Rattle.counter.proofs.sets.any_of.Goals as goal

@@ -1,5 +1,4 @@
 -- `box_of`: one by one or triple by triple, the same events are found.
-use borrow.Author.Rules.{rules}
 use Rattle.counter.proofs.GroupLaws.{triples_all}
 use Rattle.counter.proofs.sets.box_of.Goals as goal
 

@@ -1,8 +1,5 @@
 -- `drawn_of`: an ellipsoid in a loop of its own, a box in the way that pays, any other shape event by event.
-use mathlib.Core.Path.{◌≡◌, ◌∙◌, sym}
-use mathlib.Core.Bool.{true, false}
-use Rattle.counter.specs.Inner.Steps.{is_ellipsoid}
-use borrow.Author.Rules.{rules}
+use mathlib.Core.Path.{◌∙◌, sym}
 use Rattle.counter.proofs.sets.drawn_of.Goals as goal
 
 pub ellipsoid_of-requires : goal.ellipsoid_of-requires

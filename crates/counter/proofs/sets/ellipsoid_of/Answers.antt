@@ -11,8 +11,7 @@ use Rattle.plans.specs.Bits.{has_bit}
 use Rattle.counter.specs.Counting.{event_at}
 use Rattle.counter.specs.Inner.Groups.{First, drawn_at}
 use Rattle.counter.proofs.TallyLaws.{event-inside}
-use Rattle.counter.proofs.GroupLaws.{event-part, event-long, Asking, asking_all, asking_done, asked, asking_next}
-use borrow.Author.Rules.{rules}
+use Rattle.counter.proofs.GroupLaws.{event-part, event-long, asking_all, asking_done, asked, asking_next}
 use Rattle.counter.proofs.sets.ellipsoid_of.Goals as goal
 use Rattle.counter.proofs.sets.ellipsoid_of.Goals.{After-first_of-e}
 

@@ -6,7 +6,6 @@ use mir.Syntax.{w64}
 use mir.Facts.{to_z-of_z, to_z_pos}
 use Rattle.integers.proofs.Bounds.{wider}
 use Rattle.counter.proofs.SpanLaws.{difference-fits}
-use borrow.Author.Rules.{rules}
 use Rattle.counter.proofs.sets.in_span.Goals as goal
 
 pub overflow_cast-above : goal.overflow_cast-above

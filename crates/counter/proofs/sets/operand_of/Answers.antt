@@ -5,7 +5,6 @@ use native.Mathlib.Omega.{arith}
 use borrow.Author.Tests.{eq-eqb, ne_eqb}
 use Rattle.plans.specs.Words.{word, number}
 use Rattle.counter.specs.Inner.Groups.{in_set, outside, operand_at}
-use borrow.Author.Rules.{rules}
 use Rattle.counter.proofs.sets.operand_of.Goals as goal
 use Rattle.counter.proofs.sets.operand_of.Goals.{Start}
 

@@ -1,7 +1,6 @@
 -- `parent_set`: the set of the parent where one is named, else the events taken.
 use borrow.Author.Tests.{lt-ltb, le-ltb}
 use Rattle.counter.specs.Inner.Groups.{in_set, parent_at}
-use borrow.Author.Rules.{rules}
 use Rattle.counter.proofs.sets.parent_set.Goals as goal
 
 pub returns-then-parent-lt64 : goal.returns-then-parent-lt64

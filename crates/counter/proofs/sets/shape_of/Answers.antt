@@ -4,7 +4,6 @@ use mathlib.Core.Bool.{not}
 use Rattle.counter.specs.Inner.Groups.{outside, drawn_at, shape_at}
 use Rattle.counter.proofs.PositionLaws.{without-outline_tells}
 use Rattle.counter.proofs.GroupLaws.{those_same, those_and, all-is, any-is, operand_same}
-use borrow.Author.Rules.{rules}
 use Rattle.counter.proofs.sets.shape_of.Goals as goal
 
 -- ---- what the calls ask: the case tells what the body is

@@ -12,7 +12,6 @@ use Rattle.counter.proofs.ReadLaws.{read_word}
 use Rattle.counter.proofs.SoundLaws.{four-inside}
 use Rattle.counter.proofs.StepLaws.{body_is, body-places, head-of-step, shaped-step}
 use Rattle.counter.proofs.GroupLaws.{step_those, agree_among, candidates_and, those_none}
-use borrow.Author.Rules.{rules}
 use Rattle.counter.proofs.sets.step_of.Goals as goal
 use Rattle.counter.proofs.sets.step_of.Goals.{After-head_of-head, After-parent_of}
 

@@ -1,11 +1,8 @@
 -- `triples_of`: rest has the events that are in the triples before the i-th word.
-use mathlib.Core.Path.{◌≡◌, refl}
-use Prim.Native.Nat.{suc, ◌≤◌, ◌-◌, ◌/◌, ◌%◌, ◌+◌}
-use native.Mathlib.Omega.{arith}
+use mathlib.Core.Path.{◌≡◌}
+use Prim.Native.Nat.{◌≤◌, ◌-◌, ◌/◌, ◌%◌}
 use lib.ListN.{length}
 use Rattle.counter.specs.Inner.Groups.{Those, triples_at}
-use Rattle.counter.proofs.GroupLaws.{triples_none, triples_next}
-use borrow.Author.Rules.{rules}
 use Rattle.counter.proofs.sets.triples_of.Given as goal
 
 abbrev pub invariant-loop-i : goal.invariant-loop-i

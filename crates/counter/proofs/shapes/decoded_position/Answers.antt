@@ -2,7 +2,6 @@
 use mathlib.Core.Path.{◌∙◌, ap}
 use mathlib.Core.Bool.{Bool, not}
 use Rattle.counter.specs.Inner.Steps.{without_outline}
-use borrow.Author.Rules.{rules}
 use Rattle.counter.proofs.shapes.decoded_position.Goals as goal
 
 pub shape_position-requires : goal.shape_position-requires

@@ -2,7 +2,6 @@
 use mathlib.Core.Path.{◌∙◌}
 use Rattle.counter.specs.DecimalEllipse.{decimal_ellipse_position}
 use Rattle.counter.proofs.ReadLaws.{fields-kept, handed_on}
-use borrow.Author.Rules.{rules}
 use Rattle.counter.proofs.shapes.event_decimal_ellipse_position.Goals as goal
 
 pub decimal_ellipse_position-requires : goal.decimal_ellipse_position-requires

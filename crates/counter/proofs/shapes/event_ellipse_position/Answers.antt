@@ -2,7 +2,6 @@
 use mathlib.Core.Path.{◌∙◌}
 use Rattle.counter.specs.Positions.{ellipse_position}
 use Rattle.counter.proofs.ReadLaws.{fields-kept, handed_on}
-use borrow.Author.Rules.{rules}
 use Rattle.counter.proofs.shapes.event_ellipse_position.Goals as goal
 
 pub ellipse_position-requires : goal.ellipse_position-requires

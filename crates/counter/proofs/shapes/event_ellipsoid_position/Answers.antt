@@ -2,7 +2,6 @@
 use mathlib.Core.Path.{◌∙◌}
 use Rattle.counter.specs.Ellipsoid.{ellipsoid_position}
 use Rattle.counter.proofs.ReadLaws.{solid_kept, solid_handed_on}
-use borrow.Author.Rules.{rules}
 use Rattle.counter.proofs.shapes.event_ellipsoid_position.Goals as goal
 
 pub ellipsoid_position-requires : goal.ellipsoid_position-requires

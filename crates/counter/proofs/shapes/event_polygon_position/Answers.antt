@@ -1,7 +1,6 @@
 -- `event_polygon_position`: the part behind the two dimensions is handed on.
 use mathlib.Core.Path.{◌∙◌}
 use Rattle.counter.proofs.ReadLaws.{read_word, behind-two}
-use borrow.Author.Rules.{rules}
 use Rattle.counter.proofs.shapes.event_polygon_position.Goals as goal
 
 pub polygon_position-requires : goal.polygon_position-requires

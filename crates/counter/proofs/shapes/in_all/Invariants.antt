@@ -1,14 +1,10 @@
 -- `in_all`: the operands before the i-th hold.
-use mathlib.Core.Path.{◌≡◌, refl, sym, ◌∙◌}
+use mathlib.Core.Path.{◌≡◌}
 use mathlib.Core.Bool.{true}
 use Prim.Native.Nat.{◌≤◌, ◌-◌}
-use native.Mathlib.Omega.{arith}
 use lib.ListN.{length}
-use borrow.Author.Tests.{not-true, not-false}
 use Rattle.plans.specs.Indices.{all}
-use Rattle.plans.proofs.IndexLaws.{all_more, all_stop}
 use Rattle.counter.specs.Members.{operand_in}
-use borrow.Author.Rules.{rules}
 use Rattle.counter.proofs.shapes.in_all.Given as goal
 
 abbrev pub invariant-loop-i : goal.invariant-loop-i

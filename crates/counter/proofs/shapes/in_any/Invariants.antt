@@ -1,13 +1,10 @@
 -- `in_any`: none of the operands before the i-th holds.
-use mathlib.Core.Path.{◌≡◌, refl, sym, ◌∙◌}
+use mathlib.Core.Path.{◌≡◌}
 use mathlib.Core.Bool.{false}
 use Prim.Native.Nat.{◌≤◌, ◌-◌}
-use native.Mathlib.Omega.{arith}
 use lib.ListN.{length}
 use Rattle.plans.specs.Indices.{any}
-use Rattle.plans.proofs.IndexLaws.{any-more, any_stop}
 use Rattle.counter.specs.Members.{operand_in}
-use borrow.Author.Rules.{rules}
 use Rattle.counter.proofs.shapes.in_any.Given as goal
 
 abbrev pub invariant-loop-i : goal.invariant-loop-i

@@ -1,10 +1,10 @@
 -- `in_box`: inside says whether the triples before the i-th word hold the event.
 use mathlib.Core.Path.{◌≡◌, refl}
-use Prim.Native.Nat.{suc, ◌≤◌, ◌-◌, ◌/◌, ◌%◌, ◌+◌}
+use Prim.Native.Nat.{suc, ◌/◌, ◌+◌}
 use native.Mathlib.Omega.{arith}
 use lib.ListN.{length}
 use Rattle.plans.specs.Indices.{all}
-use Rattle.counter.specs.Members.{triple_in, box_in}
+use Rattle.counter.specs.Members.{box_in}
 use borrow.Author.Rules.{rules}
 use Rattle.counter.proofs.shapes.in_box.Goals as goal
 

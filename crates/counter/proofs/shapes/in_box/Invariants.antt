@@ -1,11 +1,9 @@
 -- `in_box`: inside says whether the triples before the i-th word hold the event.
-use mathlib.Core.Path.{◌≡◌, refl}
-use Prim.Native.Nat.{suc, ◌≤◌, ◌-◌, ◌/◌, ◌%◌, ◌+◌}
-use native.Mathlib.Omega.{arith}
+use mathlib.Core.Path.{◌≡◌}
+use Prim.Native.Nat.{◌≤◌, ◌-◌, ◌/◌, ◌%◌}
 use lib.ListN.{length}
 use Rattle.plans.specs.Indices.{all}
-use Rattle.counter.specs.Members.{triple_in, box_in}
-use borrow.Author.Rules.{rules}
+use Rattle.counter.specs.Members.{triple_in}
 use Rattle.counter.proofs.shapes.in_box.Given as goal
 
 abbrev pub invariant-loop-i : goal.invariant-loop-i

@@ -2,7 +2,6 @@
 use mathlib.Core.Path.{◌∙◌, ap, sym}
 use Rattle.plans.proofs.IndexLaws.{clash}
 use Rattle.counter.specs.Positions.{not_outside}
-use borrow.Author.Rules.{rules}
 use Rattle.counter.proofs.shapes.in_ellipsoid.Goals as goal
 
 pub event_ellipsoid_position-requires : goal.event_ellipsoid_position-requires

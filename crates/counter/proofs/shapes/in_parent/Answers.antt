@@ -1,6 +1,5 @@
 -- `in_parent` makes its test in the order of the definition.
 use borrow.Author.Tests.{lt-ltb, le-ltb}
-use borrow.Author.Rules.{rules}
 use Rattle.counter.proofs.shapes.in_parent.Goals as goal
 
 pub returns-then-parent-lt64 : goal.returns-then-parent-lt64

@@ -3,7 +3,6 @@ use mathlib.Core.Path.{◌∙◌, ap, sym}
 use Rattle.plans.proofs.IndexLaws.{clash}
 use Rattle.counter.specs.Positions.{not_outside}
 use Rattle.counter.proofs.PositionLaws.{without-outline_tells}
-use borrow.Author.Rules.{rules}
 use Rattle.counter.proofs.shapes.in_shape.Goals as goal
 
 pub in_box-requires : goal.in_box-requires

@@ -1,7 +1,6 @@
 -- `in_triple`: the words that are read are those of the triple.
 use native.Mathlib.Omega.{arith}
 use Rattle.counter.proofs.ReadLaws.{triple_is}
-use borrow.Author.Rules.{rules}
 use Rattle.counter.proofs.shapes.in_triple.Goals as goal
 
 pub number_in-d-requires : goal.number_in-d-requires

@@ -1,7 +1,6 @@
 -- `shape_position` goes by cases as `position_to` does.
 use mathlib.Core.Path.{◌∙◌, ap}
 use Rattle.counter.specs.Inner.Steps.{without_outline}
-use borrow.Author.Rules.{rules}
 use Rattle.counter.proofs.shapes.shape_position.Goals as goal
 
 pub in_box-requires : goal.in_box-requires

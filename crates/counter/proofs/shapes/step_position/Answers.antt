@@ -9,7 +9,6 @@ use Rattle.counter.specs.Inner.Steps.{parent_region, head_at}
 use Rattle.counter.proofs.ReadLaws.{read_word}
 use Rattle.counter.proofs.SoundLaws.{four-inside}
 use Rattle.counter.proofs.StepLaws.{body_is, body-places, head-is, step_out, step_in_lem, step-shaped}
-use borrow.Author.Rules.{rules}
 use Rattle.counter.proofs.shapes.step_position.Goals as goal
 use Rattle.counter.proofs.shapes.step_position.Goals.{After-head_of-head, After-parent_of}
 

@@ -5,7 +5,6 @@ use Rattle.plans.specs.Form.{region_at, length_at, next_at}
 use Rattle.counter.specs.Inner.Steps.{head_at}
 use Rattle.counter.proofs.SoundLaws.{four-inside, region-below, length-below}
 use Rattle.counter.proofs.ReadLaws.{read_word}
-use borrow.Author.Rules.{rules}
 use Rattle.counter.proofs.steps.head_at.Goals as goal
 
 pub overflow_add-at : goal.overflow_add-at

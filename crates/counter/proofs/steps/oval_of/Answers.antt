@@ -2,7 +2,6 @@
 use native.Mathlib.Omega.{arith}
 use Rattle.counter.specs.Inner.Steps.{oval_of}
 use Rattle.counter.proofs.ReadLaws.{read_word}
-use borrow.Author.Rules.{rules}
 use Rattle.counter.proofs.steps.oval_of.Goals as goal
 
 pub returns : goal.returns

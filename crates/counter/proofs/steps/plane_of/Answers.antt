@@ -1,6 +1,5 @@
 -- `plane_of`: the two dimensions.
 use Rattle.counter.specs.Inner.Steps.{plane_of}
-use borrow.Author.Rules.{rules}
 use Rattle.counter.proofs.steps.plane_of.Goals as goal
 
 pub returns : goal.returns

@@ -1,6 +1,5 @@
 -- `space_of`: the three dimensions.
 use Rattle.counter.specs.Inner.Steps.{space_of}
-use borrow.Author.Rules.{rules}
 use Rattle.counter.proofs.steps.space_of.Goals as goal
 
 pub returns : goal.returns

@@ -13,7 +13,6 @@ use Rattle.counter.specs.Inner.Steps.{step_of, step_at, StepShaped}
 use Rattle.counter.specs.declared.steps.Head.{Head}
 use Rattle.counter.proofs.SoundLaws.{kind-below, four-inside}
 use Rattle.counter.proofs.StepLaws.{body_is, body-places, step_is, step-ready, plane-ready, space_ready}
-use borrow.Author.Rules.{rules}
 use Rattle.counter.proofs.steps.step_at.Goals as goal
 use Rattle.counter.proofs.steps.step_at.Goals.{After-head_at-head}
 

@@ -1,13 +1,9 @@
 -- `is_event`: the fields before field k are numbers.
 use mathlib.Core.List.{[]}
-use mathlib.Core.Path.{◌≡◌, refl, sym, ◌∙◌}
-use Prim.Native.Nat.{◌-◌}
+use mathlib.Core.Path.{refl, sym, ◌∙◌}
 use native.Mathlib.Omega.{arith}
 use borrow.Author.Tests.{not-true, not-false}
-use borrow.Author.Rules.{rules}
-use lib.ListN.{length, drop}
 use Rattle.text.specs.Numbers.{is_number}
-use Rattle.text.specs.Bytes.{every}
 use Rattle.text.specs.Lines.{fields}
 use Rattle.text.proofs.BytesLaws.{every_goes_on}
 use Rattle.events.proofs.ListingLaws.{event_miscounted, event_misformed, event-whole}

@@ -1,16 +1,10 @@
 -- `is_event`: the fields before field k are numbers.
-use mathlib.Core.List.{[]}
-use mathlib.Core.Path.{◌≡◌, refl, sym, ◌∙◌}
+use mathlib.Core.Path.{◌≡◌}
 use Prim.Native.Nat.{◌-◌}
-use native.Mathlib.Omega.{arith}
-use borrow.Author.Tests.{not-true, not-false}
-use borrow.Author.Rules.{rules}
 use lib.ListN.{length, drop}
 use Rattle.text.specs.Numbers.{is_number}
 use Rattle.text.specs.Bytes.{every}
 use Rattle.text.specs.Lines.{fields}
-use Rattle.text.proofs.BytesLaws.{every_goes_on}
-use Rattle.events.proofs.ListingLaws.{event_miscounted, event_misformed, event-whole}
 use Rattle.events.proofs.listing.is_event.Given as goal
 
 abbrev pub invariant-loop-k : goal.invariant-loop-k

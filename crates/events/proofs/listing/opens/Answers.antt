@@ -1,6 +1,5 @@
 -- `opens`: the line is `events`, and there may be several lists.
 use mathlib.Core.Path.{refl}
-use borrow.Author.Rules.{rules}
 use Rattle.events.proofs.listing.opens.Goals as goal
 
 pub returns : goal.returns

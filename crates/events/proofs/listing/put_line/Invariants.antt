@@ -1,15 +1,10 @@
 -- `put_line`: the values of the first k fields are written over the beginning.
-use mathlib.Core.Path.{◌≡◌, refl, ◌∙◌, ap}
+use mathlib.Core.Path.{◌≡◌}
 use Prim.Native.Nat.{◌-◌, ◌≤◌}
-use native.Mathlib.Omega.{arith}
-use borrow.Author.Rules.{rules}
-use lib.Seq.{take_all}
 use lib.ListN.{length, take}
 use Rattle.text.specs.Output.{over}
 use Rattle.text.specs.Lines.{fields}
-use Rattle.text.proofs.OutputLaws.{over-length}
 use Rattle.events.specs.Inner.Answers.{line_kept}
-use Rattle.events.proofs.ListingLaws.{line-more, line_kept-length}
 use Rattle.events.proofs.listing.put_line.Given as goal
 
 abbrev pub invariant-loop-k : goal.invariant-loop-k

@@ -1,12 +1,10 @@
 -- `put_lines`: the m values of the lines before `at` are written over the beginning.
 use mathlib.Core.Path.{◌∙◌, ap}
-use Prim.Native.Nat.{◌-◌}
 use native.Mathlib.Omega.{arith}
-use borrow.Author.Rules.{rules}
 use lib.ListN.{length}
 use Rattle.text.proofs.LinesLaws.{find_from_lem, found_inside}
 use Rattle.text.proofs.OutputLaws.{over-length}
-use Rattle.events.proofs.ListingLaws.{Filled, filled_none, few_more, filled_more, filled_all, all_written}
+use Rattle.events.proofs.ListingLaws.{filled_none, few_more, filled_more, filled_all, all_written}
 use Rattle.events.proofs.listing.put_lines.Goals as goal
 
 pub loop-at-init : goal.loop-at-init
@@ -42,8 +40,7 @@ pub shape_of-list : goal.shape_of-list
 shape_of-list c = ap length c.loop-at.invariant.written ∙ over-length _ _
 
 pub returns : goal.returns
-returns c =
-    (
-      filled_all _ _ c.loop-at.at c.loop-at.m c.loop-at.invariant c.loop-at-test.false,
-      all_written _ _ c.loop-at.at c.loop-at.m c.loop-at.invariant c.loop-at-test.false,
-    )
+returns c = (
+  filled_all _ _ c.loop-at.at c.loop-at.m c.loop-at.invariant c.loop-at-test.false,
+  all_written _ _ c.loop-at.at c.loop-at.m c.loop-at.invariant c.loop-at-test.false,
+)

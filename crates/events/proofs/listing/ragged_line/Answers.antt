@@ -2,7 +2,6 @@
 use mathlib.Core.Path.{ap}
 use native.Mathlib.Omega.{arith}
 use borrow.Author.Tests.{not-true, not-false}
-use borrow.Author.Rules.{rules}
 use lib.ListN.{length, length-drop}
 use Rattle.events.proofs.PartingLaws.{start_is}
 use Rattle.events.proofs.AnswerLaws.{line-none, line_open, line-behind, line-nowhere}

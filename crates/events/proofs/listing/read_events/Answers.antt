@@ -1,5 +1,4 @@
 -- `read_events`: each answer by the law of its case.
-use borrow.Author.Rules.{rules}
 use Rattle.events.proofs.AnswerLaws.{answer-ragged, answer-short, answer-listed}
 use Rattle.events.proofs.listing.read_events.Goals as goal
 

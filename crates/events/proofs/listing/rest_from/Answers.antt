@@ -1,6 +1,5 @@
 -- `rest_from`: behind the end nothing is left.
 use mathlib.Core.Path.{◌∙◌}
-use borrow.Author.Rules.{rules}
 use Rattle.text.proofs.BytesLaws.{part-rest}
 use Rattle.text.proofs.WritingLaws.{drop-least}
 use Rattle.events.proofs.listing.rest_from.Goals as goal

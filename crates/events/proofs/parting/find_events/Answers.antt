@@ -1,12 +1,10 @@
 -- `find_events`: none of the lines before `at` is `events`.
 use mathlib.Core.Path.{sym, ◌∙◌}
-use Prim.Native.Nat.{◌-◌}
 use native.Mathlib.Omega.{arith}
 use borrow.Author.Rules.{rules}
-use lib.ListN.{length}
 use Rattle.text.proofs.LinesLaws.{find_from_lem, found_inside}
-use Rattle.events.proofs.PartingLaws.{is_opening, opening-found, opening_missing}
-use Rattle.events.proofs.SearchLaws.{Passed, passed_none, passed-more}
+use Rattle.events.proofs.PartingLaws.{opening-found, opening_missing}
+use Rattle.events.proofs.SearchLaws.{passed_none, passed-more}
 use Rattle.events.proofs.parting.find_events.Goals as goal
 
 pub loop-at-init : goal.loop-at-init
@@ -39,9 +37,8 @@ loop-at-preserved c =
     (rw c.line_from.ensures at (sym c.same.ensures) ∙ c.if-same.false)
 
 pub returns : goal.returns
-returns c =
-    (
-      opening_missing _ c.loop-at.at c.loop-at.before c.loop-at.invariant c.loop-at-test.false,
-      search rules,
-      omega (arith, c.loop-at.invariant.below, c.loop-at.invariant.inside),
-    )
+returns c = (
+  opening_missing _ c.loop-at.at c.loop-at.before c.loop-at.invariant c.loop-at-test.false,
+  search rules,
+  omega (arith, c.loop-at.invariant.below, c.loop-at.invariant.inside),
+)

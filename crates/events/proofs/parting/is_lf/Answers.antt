@@ -1,5 +1,4 @@
 -- `is_lf`: behind the end there is no LF.
-use borrow.Author.Rules.{rules}
 use lib.ListN.{get_or-eq_default}
 use Rattle.events.proofs.parting.is_lf.Goals as goal
 

@@ -1,6 +1,5 @@
 -- `split`: the answer is made of what the search found.
 use native.Mathlib.Omega.{arith}
-use borrow.Author.Rules.{rules}
 use Rattle.events.proofs.PartingLaws.{parted-is}
 use Rattle.events.proofs.parting.split.Goals as goal
 

@@ -1,6 +1,5 @@
 -- `put_count`: the three parts of the line, one behind the other.
 use native.Mathlib.Omega.{arith}
-use borrow.Author.Rules.{rules}
 use Rattle.text.proofs.OutputLaws.{decimal-length}
 use Rattle.events.proofs.PrintingLaws.{count-written}
 use Rattle.events.proofs.printing.put_count.Goals as goal

@@ -1,6 +1,5 @@
 -- `put_field`: a tab, then the digits.
 use native.Mathlib.Omega.{arith}
-use borrow.Author.Rules.{rules}
 use Rattle.text.specs.Output.{decimal}
 use Rattle.text.proofs.OutputLaws.{decimal-length}
 use Rattle.events.proofs.PrintingLaws.{written-more}

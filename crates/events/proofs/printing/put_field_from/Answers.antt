@@ -1,5 +1,4 @@
 -- `put_field_from`: the rest from a on is lent.
-use borrow.Author.Rules.{rules}
 use Rattle.text.proofs.WritingLaws.{over-lent}
 use Rattle.events.proofs.printing.put_field_from.Goals as goal
 

@@ -1,6 +1,5 @@
 -- `put_refused`: the four parts of the line, one behind the other.
 use native.Mathlib.Omega.{arith}
-use borrow.Author.Rules.{rules}
 use Rattle.text.specs.Bytes.{bytes}
 use Rattle.text.proofs.OutputLaws.{decimal-length}
 use Rattle.events.specs.Printing.{refused_line}

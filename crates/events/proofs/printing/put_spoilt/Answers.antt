@@ -1,5 +1,4 @@
 -- `put_spoilt`: the line of the name `spoilt`.
-use borrow.Author.Rules.{rules}
 use Rattle.events.specs.Printing.{spoilt_line}
 use Rattle.events.proofs.printing.put_spoilt.Goals as goal
 

@@ -1,5 +1,4 @@
 -- `put_taken`: the line of the name `taken`.
-use borrow.Author.Rules.{rules}
 use Rattle.events.specs.Printing.{taken_line}
 use Rattle.events.proofs.printing.put_taken.Goals as goal
 

@@ -2,7 +2,6 @@
 use mathlib.Core.Path.{refl}
 use Rattle.plans.specs.Indices.{any}
 use Rattle.gates.specs.Kinds.{carries_point}
-use borrow.Author.Rules.{rules}
 use Rattle.gatefields.proofs.fields.carries_point.Goals as goal
 
 pub returns : goal.returns

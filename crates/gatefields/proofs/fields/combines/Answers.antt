@@ -1,6 +1,5 @@
 -- `combines`: the number of the step's kind is 4 to 6.
 use Rattle.plans.specs.Kinds.{spans}
-use borrow.Author.Rules.{rules}
 use Rattle.gatefields.proofs.fields.combines.Goals as goal
 
 pub returns : goal.returns

@@ -1,6 +1,5 @@
 -- `dimension_of`: the place at which the search stops, without the head word, is the number of the dimension.
 use Rattle.gatefields.proofs.FieldLaws.{dimension-found}
-use borrow.Author.Rules.{rules}
 use Rattle.gatefields.proofs.fields.dimension_of.Goals as goal
 
 pub returns : goal.returns

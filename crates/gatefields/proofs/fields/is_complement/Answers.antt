@@ -10,4 +10,3 @@ returns-then-x-eq0 c = no_complement _ c.if-x-eq0.true
 pub returns : goal.returns
 unfolding is_complement
 returns c = search rules
-

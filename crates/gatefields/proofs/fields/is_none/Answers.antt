@@ -1,6 +1,5 @@
 -- `is_none`: one comparison of bytes.
 use Rattle.gates.specs.Kinds.{is_none}
-use borrow.Author.Rules.{rules}
 use Rattle.gatefields.proofs.fields.is_none.Goals as goal
 
 pub returns : goal.returns

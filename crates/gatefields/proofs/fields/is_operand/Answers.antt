@@ -1,6 +1,5 @@
 -- `is_operand`: whether what stands behind `!` is a name.
 use Rattle.gates.specs.Kinds.{is_operand}
-use borrow.Author.Rules.{rules}
 use Rattle.gatefields.proofs.fields.is_operand.Goals as goal
 
 pub returns : goal.returns

@@ -1,6 +1,5 @@
 -- `is_parent`: no parent, or a name.
 use Rattle.gates.specs.Kinds.{is_parent}
-use borrow.Author.Rules.{rules}
 use Rattle.gatefields.proofs.fields.is_parent.Goals as goal
 
 pub returns : goal.returns

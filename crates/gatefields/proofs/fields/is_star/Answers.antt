@@ -1,6 +1,5 @@
 -- `is_star`: one comparison of bytes.
 use Rattle.gates.specs.Kinds.{is_star}
-use borrow.Author.Rules.{rules}
 use Rattle.gatefields.proofs.fields.is_star.Goals as goal
 
 pub returns : goal.returns

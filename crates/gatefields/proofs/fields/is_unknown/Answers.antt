@@ -1,5 +1,4 @@
 -- `is_unknown`: the kind of the line's steps is not known.
-use borrow.Author.Rules.{rules}
 use Rattle.gatefields.proofs.fields.is_unknown.Goals as goal
 
 pub returns : goal.returns

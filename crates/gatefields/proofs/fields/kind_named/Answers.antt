@@ -1,7 +1,6 @@
 -- `kind_named`: each kind where the field is its name, else those tried before.
 use Rattle.gates.specs.Kinds.{kind_named}
 use mathlib.Core.Path.{refl}
-use borrow.Author.Rules.{rules}
 use Rattle.gatefields.proofs.fields.kind_named.Goals as goal
 
 pub returns : goal.returns

@@ -1,5 +1,4 @@
 -- `kind_of`: the kind that the first field names, of an ellipse by its points.
-use borrow.Author.Rules.{rules}
 use Rattle.gatefields.proofs.fields.kind_of.Goals as goal
 
 pub returns : goal.returns

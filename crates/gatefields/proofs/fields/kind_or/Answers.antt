@@ -1,5 +1,4 @@
 -- `kind_or`: by the comparison.
-use borrow.Author.Rules.{rules}
 use Rattle.gatefields.proofs.fields.kind_or.Goals as goal
 
 pub returns-then-same : goal.returns-then-same

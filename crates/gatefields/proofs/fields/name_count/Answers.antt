@@ -1,6 +1,5 @@
 -- `name_count`: the fields of the head line but the first.
 use lib.ListN.{length-drop}
-use borrow.Author.Rules.{rules}
 use Rattle.gatefields.proofs.fields.name_count.Goals as goal
 
 pub returns : goal.returns

@@ -4,7 +4,6 @@ use mathlib.Core.Path.{sym, ◌∙◌}
 use Rattle.gates.specs.Kinds.{operand_name}
 use Rattle.gates.proofs.FieldLaws.{complement-some}
 use Rattle.text.proofs.BytesLaws.{part-rest}
-use borrow.Author.Rules.{rules}
 use Rattle.gatefields.proofs.fields.operand_name.Goals as goal
 
 pub slice_bounds-result-count : goal.slice_bounds-result-count

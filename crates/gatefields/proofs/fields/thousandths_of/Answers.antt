@@ -3,7 +3,6 @@ use mir.Syntax.{w32}
 use mir.ValLaws.{to_z-of_z}
 use Rattle.decimals.proofs.DecimalLaws.{kept-decimal}
 use Rattle.gates.specs.Kinds.{thousandths_of}
-use borrow.Author.Rules.{rules}
 use Rattle.gatefields.proofs.fields.thousandths_of.Goals as goal
 
 pub returns : goal.returns

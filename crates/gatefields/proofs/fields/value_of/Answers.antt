@@ -3,7 +3,6 @@ use mir.Syntax.{w32}
 use mir.ValLaws.{to_z-of_z}
 use Rattle.text.proofs.NumbersLaws.{kept_read}
 use Rattle.gates.specs.Kinds.{value_of}
-use borrow.Author.Rules.{rules}
 use Rattle.gatefields.proofs.fields.value_of.Goals as goal
 
 pub returns : goal.returns

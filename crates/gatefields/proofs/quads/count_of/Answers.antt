@@ -4,7 +4,6 @@ use borrow.Author.Tests.{eq-eqb, le-leb}
 use Rattle.gates.specs.Quads.{count_digit}
 use Rattle.plans.specs.Kinds.{spans}
 use Rattle.integers.proofs.Rules.{tests}
-use borrow.Author.Rules.{rules}
 use Rattle.gatefields.proofs.quads.count_of.Goals as goal
 
 pub returns-then-x-ne1 : goal.returns-then-x-ne1

@@ -3,8 +3,6 @@ use borrow.Author.Rules.{rules}
 use native.Mathlib.Omega.{arith}
 use native.Mathlib.Numerals.{add-one}
 use mathlib.Core.Path.{◌≡◌, refl}
-use Prim.Native.Nat.{◌+◌, ◌*◌, ◌-◌, ◌≤◌}
-use Rattle.text.specs.Lines.{fields}
 use Rattle.gates.specs.Quads.{divider_at}
 use Rattle.gatefields.proofs.quads.divider_at.Goals as goal
 

@@ -1,8 +1,5 @@
 -- `divider_at`: the field at which divider j begins, j by j; each divider takes at most five fields.
-use borrow.Author.Rules.{rules}
-use native.Mathlib.Omega.{arith}
-use native.Mathlib.Numerals.{add-one}
-use mathlib.Core.Path.{◌≡◌, refl}
+use mathlib.Core.Path.{◌≡◌}
 use Prim.Native.Nat.{◌+◌, ◌*◌, ◌-◌, ◌≤◌}
 use Rattle.text.specs.Lines.{fields}
 use Rattle.gates.specs.Quads.{divider_at}

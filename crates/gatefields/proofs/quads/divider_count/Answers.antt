@@ -1,5 +1,4 @@
 -- `divider_count`: the digit of field 3.
-use borrow.Author.Rules.{rules}
 use Rattle.gatefields.proofs.quads.divider_count.Goals as goal
 
 pub returns : goal.returns

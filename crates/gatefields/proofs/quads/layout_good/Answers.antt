@@ -1,6 +1,5 @@
 -- `layout_good`: the contracts of the calls, put together.
 use Rattle.gates.specs.Quads.{layout_good}
-use borrow.Author.Rules.{rules}
 use Rattle.gatefields.proofs.quads.layout_good.Goals as goal
 
 pub returns : goal.returns

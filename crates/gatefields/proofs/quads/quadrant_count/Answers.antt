@@ -1,6 +1,5 @@
 -- `quadrant_count`: the contracts of the calls, put together.
 use Rattle.gates.specs.Quads.{quadrant_count}
-use borrow.Author.Rules.{rules}
 use Rattle.gatefields.proofs.quads.quadrant_count.Goals as goal
 
 pub returns : goal.returns

@@ -2,7 +2,6 @@
 use native.Mathlib.Omega.{arith}
 use mathlib.Core.Path.{◌≡◌}
 use Prim.Native.Nat.{min}
-use borrow.Author.Rules.{rules}
 use Rattle.gatefields.proofs.quads.quadrants_at.Goals as goal
 
 pub returns : goal.returns

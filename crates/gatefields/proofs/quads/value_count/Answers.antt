@@ -1,5 +1,4 @@
 -- `value_count`: the digit of the field after the dimension of the divider.
-use borrow.Author.Rules.{rules}
 use Rattle.gatefields.proofs.quads.value_count.Goals as goal
 
 pub returns : goal.returns

@@ -1,5 +1,4 @@
 -- `becomes`: by the number of the kind of the line's steps.
-use borrow.Author.Rules.{rules}
 use Rattle.gatelines.proofs.refusal.becomes.Goals as goal
 
 pub returns : goal.returns

@@ -1,7 +1,6 @@
 -- `entry_of`: in thousandths where the line becomes kind 7.
 use mir.Syntax.{w32}
 use mir.ValLaws.{to_z-of_z}
-use borrow.Author.Rules.{rules}
 use Rattle.gatelines.proofs.refusal.entry_of.Goals as goal
 
 pub returns-then-becomes : goal.returns-then-becomes

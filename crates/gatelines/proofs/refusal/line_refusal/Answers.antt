@@ -1,7 +1,6 @@
 -- `line_refusal`: the first test that fails gives the refusal, and those before it have passed.
 use borrow.Author.Tests.{lt-ltb, le-ltb, not-true, not-false}
 use Rattle.gates.specs.Refusal.{kind_refusal, line_refusal}
-use borrow.Author.Rules.{rules}
 use Rattle.gatelines.proofs.refusal.line_refusal.Goals as goal
 
 pub returns-then-is_unknown : goal.returns-then-is_unknown

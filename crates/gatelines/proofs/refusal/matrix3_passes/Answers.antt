@@ -1,7 +1,6 @@
 -- `matrix3_passes`: the six entries are those of the fields.
 use mir.Syntax.{w32}
 use mir.ValLaws.{to_z-of_z}
-use borrow.Author.Rules.{rules}
 use Rattle.gatelines.proofs.refusal.matrix3_passes.Goals as goal
 
 pub returns : goal.returns

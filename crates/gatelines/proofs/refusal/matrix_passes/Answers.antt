@@ -2,7 +2,6 @@
 use mir.Syntax.{w32}
 use mir.ValLaws.{to_z-of_z}
 use mathlib.Core.Path.{refl}
-use borrow.Author.Rules.{rules}
 use Rattle.gatelines.proofs.refusal.matrix_passes.Goals as goal
 
 pub returns-then-becomes : goal.returns-then-becomes

@@ -1,5 +1,4 @@
 -- `shape_good`: a quad line has its layout, another the length of its steps' body.
-use borrow.Author.Rules.{rules}
 use Rattle.gatelines.proofs.refusal.shape_good.Goals as goal
 
 pub returns-then-is_quad : goal.returns-then-is_quad

@@ -1,5 +1,4 @@
 -- `tiling_passes`: only a quad line is asked to tile.
-use borrow.Author.Rules.{rules}
 use Rattle.gatelines.proofs.refusal.tiling_passes.Goals as goal
 
 pub returns-then-is_quad : goal.returns-then-is_quad

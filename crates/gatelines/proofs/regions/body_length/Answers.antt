@@ -1,6 +1,5 @@
 -- `body_length`: three words for each divider of a quad line, and the fields behind the parent of any other.
 use Rattle.gates.specs.Inner.Regions.{body_length}
-use borrow.Author.Rules.{rules}
 use Rattle.gatelines.proofs.regions.body_length.Goals as goal
 
 pub returns-then-is_quad : goal.returns-then-is_quad

@@ -5,7 +5,6 @@ use mathlib.Core.List.{[]}
 use Prim.Native.Nat.{◌+◌}
 use lib.ListN.{get_or-eq_default}
 use Rattle.text.specs.Lines.{fields}
-use borrow.Author.Rules.{rules}
 use Rattle.gatelines.proofs.regions.operand_field.Goals as goal
 
 pub returns-then-minus-j : goal.returns-then-minus-j

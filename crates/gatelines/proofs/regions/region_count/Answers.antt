@@ -1,6 +1,5 @@
 -- `region_count`: the quadrants of a quad line, and one region of any other.
 use Rattle.gates.specs.Inner.Regions.{region_count}
-use borrow.Author.Rules.{rules}
 use Rattle.gatelines.proofs.regions.region_count.Goals as goal
 
 pub returns-then-is_quad : goal.returns-then-is_quad

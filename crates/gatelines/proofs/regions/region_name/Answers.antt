@@ -7,7 +7,6 @@ use Rattle.text.specs.Lines.{fields}
 use Rattle.gates.specs.Quads.{quadrant_count}
 use Rattle.gates.specs.Inner.Regions.{region_name}
 use Rattle.gatelines.proofs.LineLaws.{cond_lt, quad-known, region-quad}
-use borrow.Author.Rules.{rules}
 use Rattle.gatelines.proofs.regions.region_name.Goals as goal
 
 pub returns-then-region_count-q : goal.returns-then-region_count-q

@@ -1,5 +1,4 @@
 -- `step_number`: the number of the kind of the line's steps.
-use borrow.Author.Rules.{rules}
 use Rattle.gatelines.proofs.regions.step_number.Goals as goal
 
 pub returns : goal.returns

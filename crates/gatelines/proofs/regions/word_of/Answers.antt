@@ -7,7 +7,6 @@ use borrow.Author.Tests.{lt-ltb, le-ltb, lt-leb, le-leb}
 use Rattle.text.specs.Lines.{fields}
 use Rattle.gates.specs.Inner.Regions.{body_word_of}
 use Rattle.gatelines.proofs.LineLaws.{quad-known, region-quad, length-quad, length-other}
-use borrow.Author.Rules.{rules}
 use Rattle.gatelines.proofs.regions.word_of.Goals as goal
 
 pub returns-then-name_count-gt8 : goal.returns-then-name_count-gt8

@@ -5,7 +5,6 @@ use Prim.Native.Nat.{min}
 use mir.Syntax.{w32}
 use mir.ValLaws.{to_z-of_z}
 use Rattle.gates.specs.Quads.{divider_value}
-use borrow.Author.Rules.{rules}
 use Rattle.gatelines.proofs.tiling.divider_value.Goals as goal
 
 pub returns : goal.returns

@@ -1,6 +1,5 @@
 -- `held_once`: a number that is no combination passes; a combination has one holder.
 use Rattle.gates.specs.Tiling.{held_once}
-use borrow.Author.Rules.{rules}
 use Rattle.gatelines.proofs.tiling.held_once.Goals as goal
 
 pub returns-then-is_combination : goal.returns-then-is_combination

@@ -3,10 +3,7 @@ use borrow.Author.Rules.{rules}
 use native.Mathlib.Omega.{arith}
 use native.Mathlib.Numerals.{add-one}
 use mathlib.Core.Path.{◌≡◌, refl}
-use Prim.Native.Nat.{◌-◌, ◌≤◌}
-use Rattle.text.specs.Lines.{fields}
 use Rattle.plans.specs.Indices.{how_many}
-use Rattle.gates.specs.Tiling.{holds_combination}
 use Rattle.gatelines.proofs.LineLaws.{count_le}
 use Rattle.gatelines.proofs.tiling.holders.Goals as goal
 

@@ -1,13 +1,9 @@
 -- `holders`: how many of the quadrants below q hold the combination.
-use borrow.Author.Rules.{rules}
-use native.Mathlib.Omega.{arith}
-use native.Mathlib.Numerals.{add-one}
-use mathlib.Core.Path.{◌≡◌, refl}
+use mathlib.Core.Path.{◌≡◌}
 use Prim.Native.Nat.{◌-◌, ◌≤◌}
 use Rattle.text.specs.Lines.{fields}
 use Rattle.plans.specs.Indices.{how_many}
 use Rattle.gates.specs.Tiling.{holds_combination}
-use Rattle.gatelines.proofs.LineLaws.{count_le}
 use Rattle.gatelines.proofs.tiling.holders.Given as goal
 
 abbrev pub invariant-loop-q : goal.invariant-loop-q

@@ -3,10 +3,8 @@ use borrow.Author.Rules.{rules}
 use native.Mathlib.Omega.{arith}
 use native.Mathlib.Numerals.{add-one}
 use mathlib.Core.Path.{◌≡◌, refl}
-use Prim.Native.Nat.{◌-◌, ◌≤◌}
-use Rattle.text.specs.Lines.{fields}
 use Rattle.plans.specs.Indices.{all}
-use Rattle.gates.specs.Tiling.{interval_in, holds_interval, holds_combination}
+use Rattle.gates.specs.Tiling.{holds_combination}
 use Rattle.gatelines.proofs.tiling.holds_combination.Goals as goal
 
 pub loop-t-init : goal.loop-t-init

@@ -1,12 +1,9 @@
 -- `holds_combination`: below divider t each interval is held.
-use borrow.Author.Rules.{rules}
-use native.Mathlib.Omega.{arith}
-use native.Mathlib.Numerals.{add-one}
-use mathlib.Core.Path.{◌≡◌, refl}
+use mathlib.Core.Path.{◌≡◌}
 use Prim.Native.Nat.{◌-◌, ◌≤◌}
 use Rattle.text.specs.Lines.{fields}
 use Rattle.plans.specs.Indices.{all}
-use Rattle.gates.specs.Tiling.{interval_in, holds_interval, holds_combination}
+use Rattle.gates.specs.Tiling.{interval_in, holds_interval}
 use Rattle.gatelines.proofs.tiling.holds_combination.Given as goal
 
 abbrev pub invariant-loop-t : goal.invariant-loop-t

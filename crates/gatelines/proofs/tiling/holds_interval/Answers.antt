@@ -6,7 +6,6 @@ use Rattle.text.specs.Lines.{fields}
 use Rattle.gates.specs.Kinds.{field_at}
 use Rattle.gates.specs.Tiling.{holds_interval}
 use Rattle.gates.proofs.QuadLaws.{count_small}
-use borrow.Author.Rules.{rules}
 use Rattle.gatelines.proofs.tiling.holds_interval.Goals as goal
 
 pub interval-requires : goal.interval-requires

@@ -3,15 +3,11 @@ use borrow.Author.Rules.{rules}
 use native.Mathlib.Omega.{arith}
 use native.Mathlib.Numerals.{add-one}
 use mathlib.Core.Path.{◌≡◌, refl}
-use Prim.Native.Nat.{◌-◌, ◌≤◌, min}
-use lib.Signed.{le_z}
+use Prim.Native.Nat.{min}
 use mir.Syntax.{w32}
-use mir.Val.{to_z}
 use mir.ValLaws.{to_z-of_z}
-use Rattle.text.specs.Lines.{fields}
 use Rattle.plans.specs.Indices.{how_many}
 use Rattle.gatelines.proofs.LineLaws.{count_le}
-use Rattle.gates.specs.Quads.{divider_value}
 use Rattle.gates.specs.Tiling.{interval}
 use Rattle.gatelines.proofs.tiling.interval.Goals as goal
 
@@ -24,11 +20,10 @@ overflow_add-k c = let h = count_le _ _ _ c.loop-j.invariant.1 in search rules
 
 pub loop-j-preserved : goal.loop-j-preserved
 unfolding how_many
-loop-j-preserved c =
-    (
-      search rules,
-      rw (add-one, c.pick-k.ensures, to_z-of_z w32 _ (record { sfits = c.divider_value.type_inv }), c.divider_value.ensures, c.loop-j.invariant.1),
-    )
+loop-j-preserved c = (
+  search rules,
+  rw (add-one, c.pick-k.ensures, to_z-of_z w32 _ (record { sfits = c.divider_value.type_inv }), c.divider_value.ensures, c.loop-j.invariant.1),
+)
 
 pub returns : goal.returns
 unfolding interval

@@ -3,12 +3,9 @@ use borrow.Author.Rules.{rules}
 use native.Mathlib.Omega.{arith}
 use native.Mathlib.Numerals.{add-one}
 use mathlib.Core.Path.{◌≡◌, refl}
-use Prim.Native.Nat.{◌-◌, ◌≤◌, min}
-use lib.Dec.{leb}
-use Rattle.text.specs.Lines.{fields}
+use Prim.Native.Nat.{min}
 use Rattle.plans.specs.Indices.{all}
-use Rattle.gates.specs.Quads.{value_count}
-use Rattle.gates.specs.Tiling.{interval_in, is_combination}
+use Rattle.gates.specs.Tiling.{is_combination}
 use Rattle.gatelines.proofs.tiling.is_combination.Goals as goal
 
 pub loop-t-init : goal.loop-t-init

@@ -1,5 +1,4 @@
 -- `line_word` goes by kind as `body_of` does: the words of a leaf are a table, and what draws no leaf has none.
-use borrow.Author.Rules.{rules}
 use Rattle.gatelines.proofs.LineLaws.{word_in_table}
 use Rattle.gatelines.proofs.words.line_word.Goals as goal
 

@@ -3,7 +3,6 @@ use mir.Syntax.{w32}
 use mir.ValLaws.{to_z-of_z}
 use borrow.Author.Tests.{eq-eqb, ne_eqb}
 use Rattle.gates.specs.Encoding.{lower_end}
-use borrow.Author.Rules.{rules}
 use Rattle.gatelines.proofs.words.lower_end.Goals as goal
 
 pub returns-then-k-eq0 : goal.returns-then-k-eq0

@@ -2,7 +2,6 @@
 use mir.Syntax.{w32}
 use mir.ValLaws.{to_z-of_z}
 use Rattle.gates.specs.Encoding.{max_word}
-use borrow.Author.Rules.{rules}
 use Rattle.gatelines.proofs.words.max_word.Goals as goal
 
 pub returns-then-is_star : goal.returns-then-is_star

@@ -6,7 +6,6 @@ use Rattle.text.specs.Lines.{fields}
 use Rattle.gates.specs.Kinds.{field_at}
 use Rattle.gates.specs.Encoding.{quadrant_min}
 use Rattle.gates.proofs.QuadLaws.{count_small}
-use borrow.Author.Rules.{rules}
 use Rattle.gatelines.proofs.words.quadrant_min.Goals as goal
 
 pub returns-then-is_star : goal.returns-then-is_star

@@ -9,7 +9,6 @@ use Rattle.text.specs.Lines.{fields}
 use Rattle.gates.specs.Kinds.{field_at}
 use Rattle.gates.specs.Encoding.{quadrant_word}
 use Rattle.gates.proofs.QuadLaws.{count_small}
-use borrow.Author.Rules.{rules}
 use Rattle.gatelines.proofs.words.quadrant_word.Goals as goal
 
 pub returns-then-i-eq0 : goal.returns-then-i-eq0

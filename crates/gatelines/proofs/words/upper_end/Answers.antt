@@ -8,7 +8,6 @@ use borrow.Author.Tests.{eq-eqb, ne_eqb}
 use Rattle.text.specs.Lines.{fields}
 use Rattle.gates.specs.Quads.{value_count}
 use Rattle.gates.specs.Encoding.{upper_end}
-use borrow.Author.Rules.{rules}
 use Rattle.gatelines.proofs.words.upper_end.Goals as goal
 
 pub returns-then-k-value_count : goal.returns-then-k-value_count

@@ -3,7 +3,6 @@ use mathlib.Core.Path.{refl}
 use lib.Pow.{pow_mono}
 use native.Mathlib.Nat.{div-eq_of_lt, lt_of_lt_of_le}
 use Rattle.plans.specs.Bits.{has_bit}
-use borrow.Author.Rules.{rules}
 use Rattle.plans.proofs.bits.has_bit.Goals as goal
 
 pub returns-then-r-lt64 : goal.returns-then-r-lt64

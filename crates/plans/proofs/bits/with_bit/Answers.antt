@@ -4,7 +4,6 @@ use native.Mathlib.Nat.{one-mul}
 use native.Mathlib.Omega.{arith}
 use borrow.Author.Tests.{lt-ltb, le-ltb}
 use Rattle.plans.specs.Bits.{with_bit}
-use borrow.Author.Rules.{rules}
 use Rattle.plans.proofs.bits.with_bit.Goals as goal
 
 pub returns-then-r-lt64 : goal.returns-then-r-lt64

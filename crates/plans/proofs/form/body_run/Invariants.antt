@@ -1,17 +1,10 @@
 -- `body_run`: the words from the i-th on begin with as many good ones.
-use mathlib.Core.Path.{◌≡◌, refl, sym, ap, ◌∙◌}
-use Prim.Native.Nat.{ℕ, ◌≤◌, ◌-◌}
-use native.Mathlib.Nat.{sub-zero}
+use mathlib.Core.Path.{◌≡◌}
+use Prim.Native.Nat.{◌≤◌, ◌-◌}
 use lib.ListN.{length}
-use lib.Dec.{eqb}
-use borrow.Author.Tests.{eq-eqb, ne_eqb, not-true, not-false}
-use Rattle.plans.specs.Kinds.{kind_number}
 use Rattle.plans.specs.Indices.{first_bad}
 use Rattle.plans.specs.Form.{body_word}
 use Rattle.plans.specs.Inner.Reader.{body_run}
-use Rattle.plans.proofs.KindLaws.{ellipsoid-run-is}
-use Rattle.plans.proofs.IndexLaws.{first_more, first_stop, first_end}
-use borrow.Author.Rules.{rules}
 use Rattle.plans.proofs.form.body_run.Given as goal
 
 abbrev pub invariant-loop-i : goal.invariant-loop-i

@@ -3,7 +3,6 @@ use mathlib.Core.Path.{◌∙◌, sym}
 use Rattle.plans.proofs.IndexLaws.{clash}
 use Rattle.plans.proofs.WordLaws.{back}
 use Rattle.plans.proofs.KindLaws.{most-entry-from, ellipse-is}
-use borrow.Author.Rules.{rules}
 use Rattle.plans.proofs.form.body_word.Goals as goal
 
 pub ellipse_word-requires : goal.ellipse_word-requires

@@ -1,6 +1,5 @@
 -- `box_word` makes the tests of `box_word` in their order.
 use Rattle.plans.proofs.FormLaws.{box-dimension, box-min, box-max}
-use borrow.Author.Rules.{rules}
 use Rattle.plans.proofs.form.box_word.Goals as goal
 
 pub returns-then-j-eq0 : goal.returns-then-j-eq0

@@ -1,13 +1,9 @@
 -- `check`: what is left of the plan, read from a place on, says what the check says.
-use mathlib.Core.Path.{◌≡◌, refl, sym, ap, ◌∙◌}
+use mathlib.Core.Path.{sym, ◌∙◌}
 use Prim.Native.Nat.{◌≤◌}
 use native.Mathlib.Omega.{arith}
-use lib.ListN.{length}
 use borrow.Author.Tests.{not-true, not-false}
-use Rattle.plans.specs.Form.{check_of}
-use Rattle.plans.specs.Inner.Reader.{steps_form}
 use Rattle.plans.proofs.CheckLaws.{few-steps, long-plan, bad-width, bad-count, good-head, turn-bad, turn-good, turn_inside, left_over, all_read}
-use borrow.Author.Rules.{rules}
 use Rattle.plans.proofs.form.check.Goals as goal
 
 pub returns-then-plan-gt4096 : goal.returns-then-plan-gt4096

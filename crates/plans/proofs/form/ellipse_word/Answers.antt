@@ -3,7 +3,6 @@ use mir.Facts.{to_z-of_z}
 use borrow.Author.Tests.{lt-ltb, le-ltb, eq-eqb, ne_eqb}
 use Rattle.plans.proofs.FormLaws.{kept_from_lem}
 use Rattle.plans.specs.Form.{ellipse_word}
-use borrow.Author.Rules.{rules}
 use Rattle.plans.proofs.form.ellipse_word.Goals as goal
 
 pub returns-then-i-lt2 : goal.returns-then-i-lt2

@@ -1,14 +1,10 @@
 -- `ellipsoid_run`: as `ellipsoid_run`, of an ellipsoid.
-use mathlib.Core.Path.{◌≡◌, refl, sym, ap, ◌∙◌}
+use mathlib.Core.Path.{◌≡◌}
 use Prim.Native.Nat.{◌≤◌, ◌-◌}
-use native.Mathlib.Nat.{sub-zero}
 use lib.ListN.{length}
-use borrow.Author.Tests.{not-true, not-false}
 use Rattle.plans.specs.Indices.{first_bad}
 use Rattle.plans.specs.Form.{ellipsoid_word}
 use Rattle.plans.specs.Inner.Reader.{ellipsoid_run}
-use Rattle.plans.proofs.IndexLaws.{first_more, first_stop, first_end}
-use borrow.Author.Rules.{rules}
 use Rattle.plans.proofs.form.ellipsoid_run.Given as goal
 
 abbrev pub invariant-loop-i : goal.invariant-loop-i

@@ -1,7 +1,6 @@
 -- `ellipsoid_word` makes the tests of `ellipsoid_word` in their order.
 use borrow.Author.Tests.{lt-ltb, le-ltb, eq-eqb, ne_eqb}
 use Rattle.plans.specs.Form.{ellipsoid_word}
-use borrow.Author.Rules.{rules}
 use Rattle.plans.proofs.form.ellipsoid_word.Goals as goal
 
 pub returns-then-i-lt3 : goal.returns-then-i-lt3

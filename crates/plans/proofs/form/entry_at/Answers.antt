@@ -1,6 +1,5 @@
 -- `entry_at` is `entry` of the word.
 use Rattle.plans.proofs.FormLaws.{negated_fits, entry_bounds}
-use borrow.Author.Rules.{rules}
 use Rattle.plans.proofs.form.entry_at.Goals as goal
 
 pub overflow_sub-most : goal.overflow_sub-most

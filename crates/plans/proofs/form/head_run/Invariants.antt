@@ -1,12 +1,9 @@
 -- `head_run`: the words from the j-th on begin with as many good ones.
-use mathlib.Core.Path.{◌≡◌, refl, sym, ap, ◌∙◌}
+use mathlib.Core.Path.{◌≡◌}
 use Prim.Native.Nat.{◌≤◌, ◌-◌}
-use borrow.Author.Tests.{not-true, not-false}
 use Rattle.plans.specs.Indices.{first_bad}
 use Rattle.plans.specs.Form.{head_word}
 use Rattle.plans.specs.Inner.Reader.{head_run}
-use Rattle.plans.proofs.IndexLaws.{first_more, first_stop, first_end}
-use borrow.Author.Rules.{rules}
 use Rattle.plans.proofs.form.head_run.Given as goal
 
 abbrev pub invariant-loop-j : goal.invariant-loop-j

@@ -1,6 +1,5 @@
 -- `head_word` makes the tests of `head_word` in their order.
 use Rattle.plans.proofs.FormLaws.{head-kind, head-region, head-parent, head-length}
-use borrow.Author.Rules.{rules}
 use Rattle.plans.proofs.form.head_word.Goals as goal
 
 pub returns-then-j-eq0 : goal.returns-then-j-eq0

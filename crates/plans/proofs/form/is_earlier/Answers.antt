@@ -1,6 +1,5 @@
 -- `is_earlier` is `earlier`.
 use Rattle.plans.specs.Form.{earlier}
-use borrow.Author.Rules.{rules}
 use Rattle.plans.proofs.form.is_earlier.Goals as goal
 
 pub returns : goal.returns

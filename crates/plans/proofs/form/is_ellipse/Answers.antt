@@ -1,5 +1,4 @@
 -- `is_ellipse`: the kind's number is 3 or 7.
-use borrow.Author.Rules.{rules}
 use Rattle.plans.proofs.form.is_ellipse.Goals as goal
 
 pub returns : goal.returns

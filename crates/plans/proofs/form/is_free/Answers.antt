@@ -1,6 +1,5 @@
 -- `is_free` is `free`.
 use Rattle.plans.specs.Form.{free}
-use borrow.Author.Rules.{rules}
 use Rattle.plans.proofs.form.is_free.Goals as goal
 
 pub returns : goal.returns

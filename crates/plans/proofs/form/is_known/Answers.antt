@@ -1,5 +1,4 @@
 -- `is_known` is `known`: the kind has a number.
-use borrow.Author.Rules.{rules}
 use Rattle.plans.proofs.form.is_known.Goals as goal
 
 pub returns : goal.returns

@@ -1,7 +1,6 @@
 -- `is_length` goes by kind as `length_good` does.
 use mathlib.Core.Path.{refl}
 use Rattle.plans.specs.Kinds.{spans_by}
-use borrow.Author.Rules.{rules}
 use Rattle.plans.proofs.form.is_length.Goals as goal
 
 pub returns-in-Box : goal.returns-in-Box

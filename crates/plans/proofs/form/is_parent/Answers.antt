@@ -1,6 +1,5 @@
 -- `is_parent` is `parent_good` of the word.
 use Rattle.plans.specs.Form.{parent_good}
-use borrow.Author.Rules.{rules}
 use Rattle.plans.proofs.form.is_parent.Goals as goal
 
 pub returns : goal.returns

@@ -1,6 +1,5 @@
 -- `kind_at` is `kind_at`.
 use Rattle.plans.specs.Form.{kind_at}
-use borrow.Author.Rules.{rules}
 use Rattle.plans.proofs.form.kind_at.Goals as goal
 
 pub returns : goal.returns

@@ -3,7 +3,6 @@ use mathlib.Core.Path.{refl}
 use Rattle.plans.specs.Indices.{all}
 use Rattle.plans.specs.Form.{matrix3_word}
 use Rattle.plans.proofs.WordLaws.{back}
-use borrow.Author.Rules.{rules}
 use Rattle.plans.proofs.form.matrix3_word.Goals as goal
 
 pub returns : goal.returns

@@ -4,7 +4,6 @@ use mir.Syntax.{w32}
 use mir.ValLaws.{to_z-of_z}
 use Rattle.plans.proofs.WordLaws.{back}
 use Rattle.plans.proofs.FormLaws.{kept_from_lem}
-use borrow.Author.Rules.{rules}
 use Rattle.plans.proofs.form.matrix_word.Goals as goal
 
 pub entry_at-requires : goal.entry_at-requires

@@ -1,6 +1,5 @@
 -- `most_entry` goes by the kind's number as `most_entry` does.
 use borrow.Author.Tests.{eq-eqb, ne_eqb}
-use borrow.Author.Rules.{rules}
 use Rattle.plans.proofs.form.most_entry.Goals as goal
 
 pub returns-then-kind_number-eq7 : goal.returns-then-kind_number-eq7

@@ -1,6 +1,5 @@
 -- `on_scale_at` is `on_scale` of the word.
 use Rattle.plans.specs.Words.{on_scale}
-use borrow.Author.Rules.{rules}
 use Rattle.plans.proofs.form.on_scale_at.Goals as goal
 
 pub returns : goal.returns

@@ -1,6 +1,5 @@
 -- `operand_word` is `operand_word`.
 use Rattle.plans.specs.Form.{operand_word}
-use borrow.Author.Rules.{rules}
 use Rattle.plans.proofs.form.operand_word.Goals as goal
 
 pub returns : goal.returns

@@ -1,7 +1,6 @@
 -- `polygon_word` makes the tests of `polygon_word` in their order.
 use borrow.Author.Tests.{lt-ltb, le-ltb}
 use Rattle.plans.specs.Form.{polygon_word}
-use borrow.Author.Rules.{rules}
 use Rattle.plans.proofs.form.polygon_word.Goals as goal
 
 pub returns-then-i-lt2 : goal.returns-then-i-lt2

@@ -4,7 +4,6 @@ use Prim.Native.Nat.{◌+◌, ◌≤◌}
 use native.Mathlib.Omega.{arith}
 use lib.ListN.{length}
 use Rattle.plans.proofs.CheckLaws.{run-most, part-most, bad-head, bad-body, good-step}
-use borrow.Author.Rules.{rules}
 use Rattle.plans.proofs.form.step_form.Goals as goal
 use Rattle.plans.proofs.form.step_form.Goals.{After-body_run-run, After-part_at}
 

@@ -4,7 +4,6 @@ use lib.IntN.{ℤ, pos}
 use lib.Signed.{lt_z}
 use Rattle.wide.specs.Inner.Values.{value, order_of}
 use Rattle.wide.proofs.OrderLaws.{is_greater, is_greater_lem}
-use borrow.Author.Rules.{rules}
 use Rattle.plans.proofs.matrix3.is_positive.Goals as goal
 use Rattle.plans.proofs.matrix3.is_positive.Goals.{After-compare}
 

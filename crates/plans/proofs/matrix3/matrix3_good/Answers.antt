@@ -15,7 +15,6 @@ use Rattle.wide.proofs.SumLaws.{sum-exact, plus-is}
 use Rattle.plans.specs.Symmetric.{symmetric, determinant3}
 use Rattle.plans.specs.Form.{matrix_good, matrix3_good}
 use Rattle.plans.proofs.AdjugateTheorems.{a11, a12, a13}
-use borrow.Author.Rules.{rules}
 use Rattle.plans.proofs.matrix3.matrix3_good.Goals as goal
 use Rattle.plans.proofs.matrix3.matrix3_good.Goals.{After-matrix_good, Start}
 

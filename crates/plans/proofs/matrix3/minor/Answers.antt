@@ -7,7 +7,6 @@ use mir.Facts.{to_z-of_z as back}
 use mir.ValLaws.{to_z-of_z}
 use Rattle.integers.proofs.Bounds.{ok64}
 use Rattle.plans.proofs.MatrixLaws.{minor_fits}
-use borrow.Author.Rules.{rules}
 use Rattle.plans.proofs.matrix3.minor.Goals as goal
 use Rattle.plans.proofs.matrix3.minor.Goals.{After-product-2}
 

@@ -2,7 +2,6 @@
 use mir.Syntax.{w32}
 use mir.ValLaws.{to_z-of_z}
 use Rattle.plans.proofs.WordLaws.{back}
-use borrow.Author.Rules.{rules}
 use Rattle.plans.proofs.words.in_range_at.Goals as goal
 
 pub returns : goal.returns

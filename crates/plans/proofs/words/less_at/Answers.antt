@@ -1,6 +1,5 @@
 -- `less_at` compares the words.
 use Rattle.plans.proofs.WordLaws.{back}
-use borrow.Author.Rules.{rules}
 use Rattle.plans.proofs.words.less_at.Goals as goal
 
 pub returns : goal.returns

@@ -1,6 +1,5 @@
 -- `number_at` is `number_of` of the word.
 use Rattle.plans.proofs.WordLaws.{back}
-use borrow.Author.Rules.{rules}
 use Rattle.plans.proofs.words.number_at.Goals as goal
 
 pub returns : goal.returns

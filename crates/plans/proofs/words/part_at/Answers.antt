@@ -1,6 +1,5 @@
 -- `part_at`: the three cases of a part that the list has, has in part, or has not.
 use Rattle.plans.proofs.WordLaws.{part-whole, part-short, part-past}
-use borrow.Author.Rules.{rules}
 use Rattle.plans.proofs.words.part_at.Goals as goal
 
 pub returns-then-m-s : goal.returns-then-m-s

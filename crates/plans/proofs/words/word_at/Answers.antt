@@ -3,7 +3,6 @@ use mathlib.Core.Path.{sym, ◌∙◌}
 use lib.ListN.{get_or-eq_default}
 use Rattle.plans.specs.Words.{word}
 use Rattle.plans.proofs.WordLaws.{back, word-there}
-use borrow.Author.Rules.{rules}
 use Rattle.plans.proofs.words.word_at.Goals as goal
 
 pub returns-then-i-s : goal.returns-then-i-s

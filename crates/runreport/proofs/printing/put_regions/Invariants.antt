@@ -1,13 +1,7 @@
 -- `put_regions`: the lines of the regions below r are written.
-use mathlib.Core.Path.{◌≡◌, ◌∙◌, ap}
 use Prim.Native.Nat.{◌-◌, ◌*◌, ◌≤◌}
-use native.Mathlib.Omega.{arith}
-use borrow.Author.Rules.{rules}
-use lib.ListN.{length}
-use Rattle.text.proofs.OutputLaws.{over-length}
 use Rattle.events.proofs.PrintingLaws.{Written}
 use Rattle.runreport.specs.Running.{number_lines}
-use Rattle.runreport.proofs.PrintLaws.{number_short, count-short, lines_none, lines-written}
 use Rattle.runreport.proofs.printing.put_regions.Given as goal
 
 abbrev pub invariant-loop-r : goal.invariant-loop-r

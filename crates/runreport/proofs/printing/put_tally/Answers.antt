@@ -1,6 +1,5 @@
 -- `put_tally`: the lines of the regions, then `taken`, `spoilt`.
 use native.Mathlib.Omega.{arith}
-use borrow.Author.Rules.{rules}
 use Rattle.runreport.proofs.PrintLaws.{taken-short, spoilt-short, tally-written}
 use Rattle.runreport.proofs.printing.put_tally.Goals as goal
 

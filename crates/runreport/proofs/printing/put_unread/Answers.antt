@@ -1,5 +1,4 @@
 -- `put_unread`: the line of the word `unread`.
-use borrow.Author.Rules.{rules}
 use Rattle.runreport.proofs.PrintLaws.{unread_written}
 use Rattle.runreport.proofs.printing.put_unread.Goals as goal
 

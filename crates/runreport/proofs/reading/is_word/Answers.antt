@@ -1,5 +1,4 @@
 -- `is_word`: the digits may be cut where the number does not fit.
-use borrow.Author.Rules.{rules}
 use Rattle.runreport.proofs.WordLaws.{word-tested}
 use Rattle.runreport.proofs.reading.is_word.Goals as goal
 

@@ -1,10 +1,8 @@
 -- `magnitude`: v and the digits from i on have the value of all, cut at 2^32 - 1.
-use mathlib.Core.Path.{◌≡◌, ◌∙◌}
-use Prim.Native.Nat.{◌≤◌, ◌-◌, min}
+use mathlib.Core.Path.{◌∙◌}
 use native.Mathlib.Omega.{arith}
 use borrow.Author.Rules.{rules}
-use lib.ListN.{length, drop, drop_of_length-le}
-use Rattle.text.specs.Numbers.{digits_value}
+use lib.ListN.{drop_of_length-le}
 use Rattle.runreport.proofs.WordLaws.{digits_more}
 use Rattle.runreport.proofs.reading.magnitude.Goals as goal
 

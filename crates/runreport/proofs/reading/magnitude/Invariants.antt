@@ -1,11 +1,8 @@
 -- `magnitude`: v and the digits from i on have the value of all, cut at 2^32 - 1.
-use mathlib.Core.Path.{◌≡◌, ◌∙◌}
+use mathlib.Core.Path.{◌≡◌}
 use Prim.Native.Nat.{◌≤◌, ◌-◌, min}
-use native.Mathlib.Omega.{arith}
-use borrow.Author.Rules.{rules}
-use lib.ListN.{length, drop, drop_of_length-le}
+use lib.ListN.{length, drop}
 use Rattle.text.specs.Numbers.{digits_value}
-use Rattle.runreport.proofs.WordLaws.{digits_more}
 use Rattle.runreport.proofs.reading.magnitude.Given as goal
 
 abbrev pub invariant-loop-i : goal.invariant-loop-i

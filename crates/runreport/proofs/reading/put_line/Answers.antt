@@ -1,14 +1,12 @@
 -- `put_line`: the words of the first k fields are written over the beginning.
-use mathlib.Core.Path.{◌≡◌, refl, ◌∙◌, ap}
-use Prim.Native.Nat.{◌-◌, ◌≤◌}
+use mathlib.Core.Path.{refl, ◌∙◌, ap}
 use native.Mathlib.Omega.{arith}
 use borrow.Author.Rules.{rules}
 use lib.Seq.{take_all}
-use lib.ListN.{length, take}
+use lib.ListN.{length}
 use mir.Syntax.{w32}
 use mir.ValLaws.{to_z-of_z}
 use Rattle.text.specs.Output.{over}
-use Rattle.text.specs.Lines.{fields}
 use Rattle.text.proofs.OutputLaws.{over-length}
 use Rattle.runreport.specs.PlanReading.{line_words}
 use Rattle.runreport.proofs.LineLaws.{line-more, line_words-length}

@@ -1,17 +1,10 @@
 -- `put_line`: the words of the first k fields are written over the beginning.
-use mathlib.Core.Path.{◌≡◌, refl, ◌∙◌, ap}
+use mathlib.Core.Path.{◌≡◌}
 use Prim.Native.Nat.{◌-◌, ◌≤◌}
-use native.Mathlib.Omega.{arith}
-use borrow.Author.Rules.{rules}
-use lib.Seq.{take_all}
 use lib.ListN.{length, take}
-use mir.Syntax.{w32}
-use mir.ValLaws.{to_z-of_z}
 use Rattle.text.specs.Output.{over}
 use Rattle.text.specs.Lines.{fields}
-use Rattle.text.proofs.OutputLaws.{over-length}
 use Rattle.runreport.specs.PlanReading.{line_words}
-use Rattle.runreport.proofs.LineLaws.{line-more, line_words-length}
 use Rattle.runreport.proofs.reading.put_line.Given as goal
 
 abbrev pub invariant-loop-k : goal.invariant-loop-k

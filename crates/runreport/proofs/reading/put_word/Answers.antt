@@ -1,6 +1,5 @@
 -- `put_word`: behind the end nothing is put.
 use mathlib.Core.Path.{sym}
-use borrow.Author.Rules.{rules}
 use lib.Seq.{set_out}
 use Rattle.runreport.proofs.reading.put_word.Goals as goal
 

@@ -1,12 +1,10 @@
 -- `put_words`: the m words of the lines before `at` are written over the beginning.
 use mathlib.Core.Path.{◌∙◌, ap}
-use Prim.Native.Nat.{◌-◌}
 use native.Mathlib.Omega.{arith}
-use borrow.Author.Rules.{rules}
 use lib.ListN.{length}
 use Rattle.text.proofs.LinesLaws.{find_from_lem, found_inside}
 use Rattle.text.proofs.OutputLaws.{over-length}
-use Rattle.text.proofs.FilledLaws.{Filled, filled_none, few_more, filled_more, filled_all, all_written}
+use Rattle.text.proofs.FilledLaws.{filled_none, few_more, filled_more, filled_all, all_written}
 use Rattle.runreport.specs.PlanReading.{line_words, words_of}
 use Rattle.runreport.proofs.LineLaws.{line_words-few, words_are}
 use Rattle.runreport.proofs.reading.put_words.Goals as goal
@@ -42,11 +40,10 @@ pub shape_of-plan : goal.shape_of-plan
 shape_of-plan c = ap length c.loop-at.invariant.written ∙ over-length _ _
 
 pub returns : goal.returns
-returns c =
-    (
-      (
-        filled_all _ _ _ _ c.loop-at.at c.loop-at.m c.loop-at.invariant c.loop-at-test.false,
-        all_written _ _ _ _ c.loop-at.at c.loop-at.m c.loop-at.invariant c.loop-at-test.false,
-      ),
-      omega (arith, c.loop-at.invariant.few, c.loop-at.invariant.inside),
-    )
+returns c = (
+  (
+    filled_all _ _ _ _ c.loop-at.at c.loop-at.m c.loop-at.invariant c.loop-at-test.false,
+    all_written _ _ _ _ c.loop-at.at c.loop-at.m c.loop-at.invariant c.loop-at-test.false,
+  ),
+  omega (arith, c.loop-at.invariant.few, c.loop-at.invariant.inside),
+)

@@ -1,14 +1,8 @@
 -- `put_words`: the m words of the lines before `at` are written over the beginning.
-use mathlib.Core.Path.{◌∙◌, ap}
 use Prim.Native.Nat.{◌-◌}
-use native.Mathlib.Omega.{arith}
-use borrow.Author.Rules.{rules}
 use lib.ListN.{length}
-use Rattle.text.proofs.LinesLaws.{find_from_lem, found_inside}
-use Rattle.text.proofs.OutputLaws.{over-length}
-use Rattle.text.proofs.FilledLaws.{Filled, filled_none, few_more, filled_more, filled_all, all_written}
+use Rattle.text.proofs.FilledLaws.{Filled}
 use Rattle.runreport.specs.PlanReading.{line_words, words_of}
-use Rattle.runreport.proofs.LineLaws.{line_words-few, words_are}
 use Rattle.runreport.proofs.reading.put_words.Given as goal
 
 abbrev pub invariant-loop-at : goal.invariant-loop-at

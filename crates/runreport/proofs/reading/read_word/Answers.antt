@@ -1,7 +1,6 @@
 -- `read_word`: the digits may be cut where the number does not fit.
 use mathlib.Core.Path.{sym, ◌∙◌}
 use borrow.Author.Tests.{not-true, not-false}
-use borrow.Author.Rules.{rules}
 use mir.Syntax.{w32}
 use mir.ValLaws.{to_z-of_z}
 use Rattle.runreport.proofs.WordLaws.{no_word, word_read}

@@ -2,10 +2,8 @@
 use borrow.Author.Rules.{rules}
 use Rattle.tablecheck.proofs.CircleLaws.{unlooped, looped_as, circles_are}
 use Rattle.plans.proofs.IndexLaws.{first_more, first_stop, first_end}
-use Rattle.plans.specs.Indices.{first_bad}
 use native.Mathlib.Nat.{sub-zero}
-use Prim.Native.Nat.{◌-◌, ◌≤◌}
-use mathlib.Core.Path.{◌≡◌, sym, ◌∙◌}
+use mathlib.Core.Path.{sym, ◌∙◌}
 use Rattle.tablecheck.proofs.names.first_circled.Goals as goal
 
 pub gate_rows-requires : goal.gate_rows-requires

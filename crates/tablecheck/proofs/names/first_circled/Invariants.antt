@@ -1,11 +1,8 @@
 -- `first_circled` meets its contract: no row before i has its own bit.
-use borrow.Author.Rules.{rules}
-use Rattle.tablecheck.proofs.CircleLaws.{unlooped, looped_as, circles_are}
-use Rattle.plans.proofs.IndexLaws.{first_more, first_stop, first_end}
+use Rattle.tablecheck.proofs.CircleLaws.{unlooped}
 use Rattle.plans.specs.Indices.{first_bad}
-use native.Mathlib.Nat.{sub-zero}
 use Prim.Native.Nat.{◌-◌, ◌≤◌}
-use mathlib.Core.Path.{◌≡◌, sym, ◌∙◌}
+use mathlib.Core.Path.{◌≡◌}
 use Rattle.tablecheck.proofs.names.first_circled.Given as goal
 
 abbrev pub invariant-loop-i : goal.invariant-loop-i

@@ -1,15 +1,12 @@
 -- `first_crowded` meets its contract: total regions are passed, and no gate before i crowds.
 use borrow.Author.Rules.{rules}
 use Rattle.resolve.proofs.CrowdLaws.{total-none, total-next, crowded_here, crowded_not}
-use Rattle.resolve.specs.Inner.Reading.{gates_at, regions_at}
+use Rattle.resolve.specs.Inner.Reading.{gates_at}
 use Rattle.tables.specs.Refusals.{uncrowded}
 use Rattle.plans.proofs.IndexLaws.{first_more, first_stop, first_end}
-use Rattle.plans.specs.Indices.{first_bad}
-use lib.ListN.{length}
 use native.Mathlib.Nat.{sub-zero}
 use native.Mathlib.Omega.{arith}
-use Prim.Native.Nat.{◌-◌, ◌≤◌}
-use mathlib.Core.Path.{◌≡◌, sym, ◌∙◌}
+use mathlib.Core.Path.{sym, ◌∙◌}
 use Rattle.tablecheck.proofs.names.first_crowded.Goals as goal
 
 pub loop-i-init : goal.loop-i-init

@@ -4,10 +4,8 @@ use borrow.Author.Rules.{rules}
 use Rattle.resolve.specs.Inner.Reading.{gates_at}
 use Rattle.tables.specs.Refusals.{living}
 use Rattle.plans.proofs.IndexLaws.{first_more, first_stop, first_end}
-use Rattle.plans.specs.Indices.{first_bad}
 use native.Mathlib.Nat.{sub-zero}
-use Prim.Native.Nat.{◌-◌, ◌≤◌}
-use mathlib.Core.Path.{◌≡◌, sym, ◌∙◌}
+use mathlib.Core.Path.{sym, ◌∙◌}
 use Rattle.tablecheck.proofs.names.first_dead.Goals as goal
 
 pub loop-i-init : goal.loop-i-init

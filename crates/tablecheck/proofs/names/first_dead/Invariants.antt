@@ -1,13 +1,9 @@
 -- `first_dead` meets its contract: each reference of a gate before i names a region.
-use borrow.Author.Tests.{not-true, not-false}
-use borrow.Author.Rules.{rules}
 use Rattle.resolve.specs.Inner.Reading.{gates_at}
 use Rattle.tables.specs.Refusals.{living}
-use Rattle.plans.proofs.IndexLaws.{first_more, first_stop, first_end}
 use Rattle.plans.specs.Indices.{first_bad}
-use native.Mathlib.Nat.{sub-zero}
 use Prim.Native.Nat.{◌-◌, ◌≤◌}
-use mathlib.Core.Path.{◌≡◌, sym, ◌∙◌}
+use mathlib.Core.Path.{◌≡◌}
 use Rattle.tablecheck.proofs.names.first_dead.Given as goal
 
 abbrev pub invariant-loop-i : goal.invariant-loop-i

@@ -3,11 +3,8 @@ use borrow.Author.Rules.{rules}
 use Rattle.tablecheck.proofs.RepeatLaws.{unrepeated-is, given-next, given-none}
 use Rattle.resolve.specs.Inner.Reading.{gates_at}
 use Rattle.tables.specs.Refusals.{unrepeated}
-use Rattle.tables.specs.Table.{given, different}
 use Rattle.plans.proofs.IndexLaws.{first_more, first_stop, first_end}
-use Rattle.plans.specs.Indices.{first_bad}
 use native.Mathlib.Nat.{sub-zero}
-use Prim.Native.Nat.{◌-◌, ◌≤◌}
 use mathlib.Core.Bool.{true}
 use mathlib.Core.Path.{◌≡◌, sym, ◌∙◌}
 use Rattle.tablecheck.proofs.names.first_repeated.Goals as goal

@@ -1,9 +1,8 @@
 -- `gate_row` meets its contract: the bits below j are those of what gate i refers to.
 use borrow.Author.Rules.{rules}
-use Rattle.tablecheck.proofs.RowLaws.{Row, row-none, row_more, refers-read}
+use Rattle.tablecheck.proofs.RowLaws.{row-none, row_more, refers-read}
 use Rattle.tablecheck.specs.Inner.Names.{refers_by}
 use native.Mathlib.Omega.{arith}
-use Prim.Native.Nat.{◌-◌, ◌≤◌}
 use mathlib.Core.Path.{◌≡◌, ◌∙◌}
 use Rattle.tablecheck.proofs.names.gate_row.Goals as goal
 

@@ -1,10 +1,7 @@
 -- `gate_row` meets its contract: the bits below j are those of what gate i refers to.
-use borrow.Author.Rules.{rules}
-use Rattle.tablecheck.proofs.RowLaws.{Row, row-none, row_more, refers-read}
+use Rattle.tablecheck.proofs.RowLaws.{Row}
 use Rattle.tablecheck.specs.Inner.Names.{refers_by}
-use native.Mathlib.Omega.{arith}
 use Prim.Native.Nat.{◌-◌, ◌≤◌}
-use mathlib.Core.Path.{◌≡◌, ◌∙◌}
 use Rattle.tablecheck.proofs.names.gate_row.Given as goal
 
 abbrev pub invariant-loop-j : goal.invariant-loop-j

@@ -5,10 +5,8 @@ use Rattle.tablecheck.proofs.RowLaws.{Row}
 use Rattle.tablecheck.specs.Inner.Names.{refers_by}
 use Rattle.graph.specs.Inner.Rows.{bit_at}
 use borrow.Author.Tests.{lt-ltb}
-use lib.ListN.{length, get_or}
 use native.Mathlib.Omega.{arith}
-use Prim.Native.Nat.{ℕ, ◌-◌, ◌<◌, ◌≤◌}
-use mathlib.Core.Path.{◌≡◌, ◌∙◌}
+use mathlib.Core.Path.{◌∙◌}
 use Rattle.tablecheck.proofs.names.gate_rows.Goals as goal
 
 pub loop-i-init : goal.loop-i-init

@@ -1,14 +1,9 @@
 -- `gate_rows` meets its contract: the rows below i are those of their gates.
-use borrow.Author.Rules.{rules}
-use Rattle.tablecheck.proofs.CircleLaws.{row-set}
 use Rattle.tablecheck.proofs.RowLaws.{Row}
 use Rattle.tablecheck.specs.Inner.Names.{refers_by}
-use Rattle.graph.specs.Inner.Rows.{bit_at}
-use borrow.Author.Tests.{lt-ltb}
 use lib.ListN.{length, get_or}
-use native.Mathlib.Omega.{arith}
 use Prim.Native.Nat.{ℕ, ◌-◌, ◌<◌, ◌≤◌}
-use mathlib.Core.Path.{◌≡◌, ◌∙◌}
+use mathlib.Core.Path.{◌≡◌}
 use Rattle.tablecheck.proofs.names.gate_rows.Given as goal
 
 abbrev pub invariant-loop-i : goal.invariant-loop-i

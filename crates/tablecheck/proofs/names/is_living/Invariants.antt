@@ -1,15 +1,10 @@
 -- `is_living` meets its contract: each reference before field k names a region.
-use borrow.Author.Rules.{rules}
-use borrow.Author.Count.{below_more}
-use Rattle.resolve.proofs.LivingLaws.{dead_here, living-all, dead_has, dead_region, live-region, end_read}
 use Rattle.resolve.specs.Inner.Reading.{fields_at, gates_at}
 use Rattle.linenames.specs.Inner.LineNames.{has_reference, reference_at}
 use Rattle.tables.specs.Refusals.{is_region}
-use Rattle.resolve.proofs.NumberLaws.{total_is, number_is}
-use native.Mathlib.Omega.{arith}
 use Prim.Native.Nat.{ℕ, ◌-◌, ◌<◌, ◌≤◌}
 use mathlib.Core.Bool.{true}
-use mathlib.Core.Path.{◌≡◌, sym}
+use mathlib.Core.Path.{◌≡◌}
 use Rattle.tablecheck.proofs.names.is_living.Given as goal
 
 abbrev pub invariant-loop-k : goal.invariant-loop-k

@@ -8,7 +8,6 @@ use Rattle.resolve.specs.Inner.Reading.{regions_at}
 use Rattle.resolve.proofs.StartLaws.{Indexed, places, line-count}
 use Rattle.tablecheck.specs.Inner.Names.{GoodLines}
 use Rattle.tablecheck.proofs.NamesLaws.{count-read, few, most, crowded_refused, repeated-refused, dead_refused, circled_refused, none-refused}
-use borrow.Author.Rules.{rules}
 use Rattle.tablecheck.proofs.names.names_refusal.Goals as goal
 use Rattle.tablecheck.proofs.names.names_refusal.Goals.{After-first_crowded-crowded}
 

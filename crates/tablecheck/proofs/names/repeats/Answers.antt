@@ -3,11 +3,9 @@ use Rattle.tablecheck.proofs.RepeatLaws.{repeats_own, repeats_rest, own_read, sh
 use Rattle.tablecheck.specs.Inner.Names.{shares_at}
 use Rattle.plans.proofs.IndexLaws.{any-more, any_stop}
 use Rattle.plans.specs.Indices.{any}
-use borrow.Author.Tests.{not-true, not-false}
+use borrow.Author.Tests.{not-true}
 use borrow.Author.Rules.{rules}
 use native.Mathlib.Omega.{arith}
-use Prim.Native.Nat.{◌-◌, ◌≤◌}
-use mathlib.Core.Bool.{false}
 use mathlib.Core.Path.{◌≡◌, refl, sym, ap, ◌∙◌}
 use Rattle.tablecheck.proofs.names.repeats.Goals as goal
 

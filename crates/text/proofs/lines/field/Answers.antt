@@ -1,11 +1,9 @@
 -- `field`: field k of the line is field `left` of its rest from a on.
-use mathlib.Core.Path.{◌≡◌, refl, sym, ◌∙◌}
-use mathlib.Core.List.{[]}
+use mathlib.Core.Path.{sym, ◌∙◌}
 use Prim.Native.Nat.{◌≤◌}
 use native.Mathlib.Omega.{arith}
 use borrow.Author.Rules.{rules}
-use lib.ListN.{length, drop, get_or}
-use Rattle.text.specs.Lines.{fields}
+use lib.ListN.{length}
 use Rattle.text.proofs.LinesLaws.{find_from_lem, found_inside, field_next, field_none, field_here}
 use Rattle.text.proofs.lines.field.Goals as goal
 use Rattle.text.proofs.lines.field.Goals.{After-find-e, After-find-e-2}

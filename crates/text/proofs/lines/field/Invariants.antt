@@ -1,12 +1,9 @@
 -- `field`: field k of the line is field `left` of its rest from a on.
-use mathlib.Core.Path.{◌≡◌, refl, sym, ◌∙◌}
+use mathlib.Core.Path.{◌≡◌}
 use mathlib.Core.List.{[]}
 use Prim.Native.Nat.{◌≤◌}
-use native.Mathlib.Omega.{arith}
-use borrow.Author.Rules.{rules}
 use lib.ListN.{length, drop, get_or}
 use Rattle.text.specs.Lines.{fields}
-use Rattle.text.proofs.LinesLaws.{find_from_lem, found_inside, field_next, field_none, field_here}
 use Rattle.text.proofs.lines.field.Given as goal
 
 abbrev pub invariant-loop-left : goal.invariant-loop-left

@@ -1,12 +1,8 @@
 -- `field_count`: n and the fields of the rest from i on are the line's fields and one.
 use mathlib.Core.Path.{◌≡◌}
-use mathlib.Core.Logic.{⊎_elim}
 use Prim.Native.Nat.{◌≤◌, ◌-◌, ◌+◌}
-use native.Mathlib.Omega.{arith}
-use borrow.Author.Rules.{rules}
 use lib.ListN.{length, drop}
 use Rattle.text.specs.Lines.{fields}
-use Rattle.text.proofs.LinesLaws.{count-tab, count-other, count_end}
 use Rattle.text.proofs.lines.field_count.Given as goal
 
 abbrev pub invariant-loop-i : goal.invariant-loop-i

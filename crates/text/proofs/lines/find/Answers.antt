@@ -1,9 +1,5 @@
 -- `find`: the place from a on is the place from i on.
-use mathlib.Core.Path.{◌≡◌, refl, sym, ◌∙◌}
-use Prim.Native.Nat.{◌-◌}
-use borrow.Author.Rules.{rules}
-use lib.ListN.{length}
-use Rattle.text.specs.Inner.Places.{find_from}
+use mathlib.Core.Path.{refl, sym, ◌∙◌}
 use Rattle.text.proofs.LinesLaws.{find_here, find_goes_on, find_end}
 use Rattle.text.proofs.lines.find.Goals as goal
 

@@ -1,11 +1,6 @@
 -- `find_field`: the field found from k on is the field found from j on.
-use mathlib.Core.Path.{◌≡◌, sym, ◌∙◌}
-use Prim.Native.Nat.{◌-◌}
+use mathlib.Core.Path.{sym, ◌∙◌}
 use native.Mathlib.Omega.{arith}
-use borrow.Author.Rules.{rules}
-use lib.ListN.{length}
-use Rattle.text.specs.Lines.{fields}
-use Rattle.text.specs.Inner.Places.{find_field}
 use Rattle.text.proofs.LinesLaws.{find_field_here, find_field_goes_on, find_field_end}
 use Rattle.text.proofs.lines.find_field.Goals as goal
 
@@ -16,12 +11,11 @@ returns-then-same c =
     ∙ find_field_here _ c.loop-j.j _ (omega arith) (rw c.field.ensures at (sym c.same.ensures) ∙ c.if-same.true))
 
 pub loop-j-preserved : goal.loop-j-preserved
-loop-j-preserved c =
-    (
-      c.loop-j.invariant.0,
-      c.loop-j.invariant.1
-          ∙ find_field_goes_on _ c.loop-j.j _ (omega arith) (rw c.field.ensures at (sym c.same.ensures) ∙ c.if-same.false),
-    )
+loop-j-preserved c = (
+  c.loop-j.invariant.0,
+  c.loop-j.invariant.1
+      ∙ find_field_goes_on _ c.loop-j.j _ (omega arith) (rw c.field.ensures at (sym c.same.ensures) ∙ c.if-same.false),
+)
 
 pub returns : goal.returns
 returns c = sym (c.loop-j.invariant.1 ∙ find_field_end _ c.loop-j.j _ (omega arith))

@@ -1,12 +1,9 @@
 -- `find_field`: the field found from k on is the field found from j on.
-use mathlib.Core.Path.{◌≡◌, sym, ◌∙◌}
+use mathlib.Core.Path.{◌≡◌}
 use Prim.Native.Nat.{◌-◌}
-use native.Mathlib.Omega.{arith}
-use borrow.Author.Rules.{rules}
 use lib.ListN.{length}
 use Rattle.text.specs.Lines.{fields}
 use Rattle.text.specs.Inner.Places.{find_field}
-use Rattle.text.proofs.LinesLaws.{find_field_here, find_field_goes_on, find_field_end}
 use Rattle.text.proofs.lines.find_field.Given as goal
 
 abbrev pub invariant-loop-j : goal.invariant-loop-j

@@ -1,11 +1,10 @@
 -- `index_lines`: the first n places are put, and the others are those of the lines from `at` on.
-use mathlib.Core.Path.{◌≡◌, refl, sym, ◌∙◌, ap}
-use Prim.Native.Nat.{◌≤◌, ◌-◌}
+use mathlib.Core.Path.{refl, sym, ◌∙◌, ap}
+use Prim.Native.Nat.{◌≤◌}
 use native.Mathlib.Omega.{arith}
 use borrow.Author.Rules.{rules}
-use lib.ListN.{length, set, take, drop, length-drop}
+use lib.ListN.{length, set, take, length-drop}
 use lib.Seq.{take_all}
-use Rattle.text.specs.Lines.{lines}
 use Rattle.text.specs.Inner.Places.{starts_from, line_starts}
 use Rattle.text.specs.Output.{over}
 use Rattle.text.proofs.BytesLaws.{rest-inside, rest-next, rest-first}

@@ -1,16 +1,10 @@
 -- `index_lines`: the first n places are put, and the others are those of the lines from `at` on.
-use mathlib.Core.Path.{◌≡◌, refl, sym, ◌∙◌, ap}
+use mathlib.Core.Path.{◌≡◌}
 use Prim.Native.Nat.{◌≤◌, ◌-◌}
-use native.Mathlib.Omega.{arith}
-use borrow.Author.Rules.{rules}
-use lib.ListN.{length, set, take, drop, length-drop}
-use lib.Seq.{take_all}
+use lib.ListN.{length, take, drop}
 use Rattle.text.specs.Lines.{lines}
 use Rattle.text.specs.Inner.Places.{starts_from, line_starts}
 use Rattle.text.specs.Output.{over}
-use Rattle.text.proofs.BytesLaws.{rest-inside, rest-next, rest-first}
-use Rattle.text.proofs.OutputLaws.{over-length, over-take}
-use Rattle.text.proofs.LinesLaws.{find_from_lem, found_inside, lines_end, starts-cut, line_starts-length}
 use Rattle.text.proofs.lines.index_lines.Given as goal
 
 abbrev pub invariant-loop-at : goal.invariant-loop-at

@@ -1,12 +1,9 @@
 -- `all_name_bytes`: every byte passes where every byte from i on does.
-use mathlib.Core.Path.{◌≡◌, sym, ◌∙◌}
+use mathlib.Core.Path.{◌≡◌}
 use Prim.Native.Nat.{◌≤◌, ◌-◌}
-use borrow.Author.Rules.{rules}
-use borrow.Author.Tests.{not-true, not-false}
 use lib.ListN.{length, drop}
 use Rattle.text.specs.Bytes.{every}
 use Rattle.text.specs.Names.{is_name_byte}
-use Rattle.text.proofs.BytesLaws.{every-fails, every_goes_on, every_end}
 use Rattle.text.proofs.names.all_name_bytes.Given as goal
 
 abbrev pub invariant-loop-i : goal.invariant-loop-i

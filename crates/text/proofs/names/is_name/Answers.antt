@@ -1,5 +1,4 @@
 -- `is_name`: the tests are the definition's.
-use borrow.Author.Rules.{rules}
 use Rattle.text.specs.Names.{is_name}
 use Rattle.integers.proofs.Rules.{tests}
 use Rattle.text.proofs.names.is_name.Goals as goal

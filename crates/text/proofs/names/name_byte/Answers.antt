@@ -1,5 +1,4 @@
 -- `name_byte`: the tests are the definition's.
-use borrow.Author.Rules.{rules}
 use Rattle.text.proofs.names.name_byte.Goals as goal
 
 pub returns : goal.returns

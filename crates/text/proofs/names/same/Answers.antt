@@ -1,9 +1,6 @@
 -- `same`: the strings are the same where their rests from i on are.
-use mathlib.Core.Path.{◌≡◌, sym, ◌∙◌}
-use Prim.Native.Nat.{◌≤◌, ◌-◌}
+use mathlib.Core.Path.{sym, ◌∙◌}
 use borrow.Author.Rules.{rules}
-use lib.ListN.{length, drop}
-use Rattle.text.specs.Bytes.{same}
 use Rattle.text.proofs.BytesLaws.{same_length, same-fails, same_goes_on, same_end}
 use Rattle.text.proofs.names.same.Goals as goal
 

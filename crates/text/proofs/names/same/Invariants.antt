@@ -1,10 +1,8 @@
 -- `same`: the strings are the same where their rests from i on are.
-use mathlib.Core.Path.{◌≡◌, sym, ◌∙◌}
+use mathlib.Core.Path.{◌≡◌}
 use Prim.Native.Nat.{◌≤◌, ◌-◌}
-use borrow.Author.Rules.{rules}
 use lib.ListN.{length, drop}
 use Rattle.text.specs.Bytes.{same}
-use Rattle.text.proofs.BytesLaws.{same_length, same-fails, same_goes_on, same_end}
 use Rattle.text.proofs.names.same.Given as goal
 
 abbrev pub invariant-loop-i : goal.invariant-loop-i

@@ -1,12 +1,9 @@
 -- `all_digits`: every byte is a digit where every byte from i on is.
-use mathlib.Core.Path.{◌≡◌, sym, ◌∙◌}
+use mathlib.Core.Path.{◌≡◌}
 use Prim.Native.Nat.{◌≤◌, ◌-◌}
-use borrow.Author.Rules.{rules}
-use borrow.Author.Tests.{not-true, not-false}
 use lib.ListN.{length, drop}
 use Rattle.text.specs.Bytes.{every}
 use Rattle.text.specs.Numbers.{is_digit}
-use Rattle.text.proofs.BytesLaws.{every-fails, every_goes_on, every_end}
 use Rattle.text.proofs.numbers.all_digits.Given as goal
 
 abbrev pub invariant-loop-i : goal.invariant-loop-i

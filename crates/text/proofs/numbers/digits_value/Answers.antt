@@ -1,10 +1,8 @@
 -- `digits_value_lem`: v and the digits from i on have the value of all, cut at 2^30.
-use mathlib.Core.Path.{◌≡◌, ◌∙◌}
-use Prim.Native.Nat.{◌≤◌, ◌-◌, min}
+use mathlib.Core.Path.{◌∙◌}
 use native.Mathlib.Omega.{arith}
 use borrow.Author.Rules.{rules}
-use lib.ListN.{length, drop, drop_of_length-le}
-use Rattle.text.specs.Numbers.{digits_value}
+use lib.ListN.{drop_of_length-le}
 use Rattle.text.proofs.NumbersLaws.{digits_more}
 use Rattle.text.proofs.numbers.digits_value.Goals as goal
 

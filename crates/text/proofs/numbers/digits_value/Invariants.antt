@@ -1,11 +1,8 @@
 -- `digits_value_lem`: v and the digits from i on have the value of all, cut at 2^30.
-use mathlib.Core.Path.{◌≡◌, ◌∙◌}
+use mathlib.Core.Path.{◌≡◌}
 use Prim.Native.Nat.{◌≤◌, ◌-◌, min}
-use native.Mathlib.Omega.{arith}
-use borrow.Author.Rules.{rules}
-use lib.ListN.{length, drop, drop_of_length-le}
+use lib.ListN.{length, drop}
 use Rattle.text.specs.Numbers.{digits_value}
-use Rattle.text.proofs.NumbersLaws.{digits_more}
 use Rattle.text.proofs.numbers.digits_value.Given as goal
 
 abbrev pub invariant-loop-i : goal.invariant-loop-i

@@ -1,5 +1,4 @@
 -- `is_number`: the tests are the definition's.
-use borrow.Author.Rules.{rules}
 use Rattle.text.specs.Numbers.{is_number}
 use Rattle.text.proofs.numbers.is_number.Goals as goal
 

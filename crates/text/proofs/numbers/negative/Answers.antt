@@ -1,7 +1,6 @@
 -- `negative`: nothing has no first byte.
 use mathlib.Core.Path.{refl}
 use native.Mathlib.Omega.{arith}
-use borrow.Author.Rules.{rules}
 use lib.ListN.{get_or-eq_default}
 use Rattle.text.specs.Numbers.{is_negative}
 use Rattle.text.proofs.numbers.negative.Goals as goal

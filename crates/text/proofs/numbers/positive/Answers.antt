@@ -1,6 +1,5 @@
 -- `positive`: nothing has no first byte.
 use native.Mathlib.Omega.{arith}
-use borrow.Author.Rules.{rules}
 use lib.ListN.{get_or-eq_default}
 use Rattle.text.specs.Numbers.{is_positive}
 use Rattle.text.proofs.numbers.positive.Goals as goal

@@ -1,7 +1,6 @@
 -- `read_number_lem`: the cut digits with their sign are the clamped value.
 use mathlib.Core.Path.{sym, ◌∙◌}
 use native.Mathlib.Omega.{arith}
-use borrow.Author.Rules.{rules}
 use mir.Syntax.{w32}
 use mir.ValLaws.{to_z-of_z}
 use Rattle.text.specs.Numbers.{number_value}

@@ -1,7 +1,6 @@
 -- `signed`: a value below 2^31 fits an i32 with either sign.
 use Prim.Native.Nat.{◌<◌, ◌^◌}
 use native.Mathlib.Omega.{arith}
-use borrow.Author.Rules.{rules}
 use mir.Syntax.{w32}
 use mir.ValLaws.{to_z-of_z, to_z_pos}
 use Rattle.text.proofs.NumbersLaws.{minus_is, minus-fits}

@@ -1,6 +1,5 @@
 -- `put_byte`: behind the end nothing is put.
 use mathlib.Core.Path.{sym}
-use borrow.Author.Rules.{rules}
 use lib.Seq.{set_out}
 use Rattle.text.proofs.output.put_byte.Goals as goal
 

@@ -1,12 +1,8 @@
 -- `put_bytes`: the first i bytes are written over the beginning.
-use mathlib.Core.Path.{◌≡◌, refl, ◌∙◌, ap}
+use mathlib.Core.Path.{◌≡◌}
 use Prim.Native.Nat.{◌≤◌, ◌-◌}
-use native.Mathlib.Omega.{arith}
-use borrow.Author.Rules.{rules}
 use lib.ListN.{length, take}
-use lib.Seq.{take_all}
 use Rattle.text.specs.Output.{over}
-use Rattle.text.proofs.OutputLaws.{over-length, over-take}
 use Rattle.text.proofs.output.put_bytes.Given as goal
 
 abbrev pub invariant-loop-i : goal.invariant-loop-i

@@ -1,5 +1,5 @@
 -- `product_low` is the lower word of the product: of the middle columns only the lower halves count.
-use Rattle.std.proofs.Common.{arith, rules}
+use Rattle.std.proofs.Common.{arith}
 use Rattle.wide.proofs.ColumnLaws.{Products, products, lower_word}
 use Rattle.wide.proofs.words.product_low.Goals as goal
 use Rattle.wide.proofs.words.product_low.Goals.{Start}

@@ -1,5 +1,4 @@
 -- `sign_turned`: 2^63 more, modulo 2^64.
-use Rattle.std.proofs.Common.{rules}
 use Rattle.wide.proofs.words.sign_turned.Goals as goal
 
 pub returns : goal.returns
