@@ -1,6 +1,5 @@
 -- `count_table`: by the words that compiling reported, or nothing; a wrong column line or a ragged list is refused where the table is not.
 use mathlib.Core.Path.{sym}
-use borrow.Author.Rules.{rules}
 use lib.Seq.{length-take-le}
 use Rattle.compiler.proofs.PlanLaws.{dims-read}
 use Rattle.counttable.proofs.CountLaws.{told, refused-first, list-refused, words_inside, counted_by_lem, counted-not}

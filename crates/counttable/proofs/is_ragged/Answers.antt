@@ -1,5 +1,4 @@
 -- `is_ragged`: where events have values, by the remainder.
-use borrow.Author.Rules.{rules}
 use borrow.Author.Tests.{ne_eqb}
 use Rattle.counttable.proofs.is_ragged.Goals as goal
 

@@ -1,6 +1,5 @@
 -- `refused_list`: the column line where it was found wrong, and the list where not.
 use mathlib.Core.Path.{sym, ap}
-use borrow.Author.Rules.{rules}
 use Rattle.heads.specs.declared.Columns.{Columns}
 use Rattle.counttable.specs.Inner.Ragged.{list_refused}
 use Rattle.counttable.proofs.refused_list.Goals as goal

@@ -1,6 +1,5 @@
 -- `uncounted`: the outcome, with a tally of zeros.
 use mathlib.Core.Path.{refl}
-use borrow.Author.Rules.{rules}
 use Rattle.counttable.proofs.uncounted.Goals as goal
 
 pub returns : goal.returns

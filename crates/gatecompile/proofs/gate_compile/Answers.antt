@@ -1,10 +1,9 @@
 -- `gate_compile`: the row of what compiling answered, and the slice.
-use mathlib.Core.Path.{◌≡◌, ◌∙◌, ap}
+use mathlib.Core.Path.{◌∙◌, ap}
 use lib.Seq.{sets}
 use Rattle.tables.specs.Compile.{Compiling}
 use Rattle.gatecompile.specs.Answers.{compile_row}
 use Rattle.gatecompile.proofs.AnswerLaws.{row-alone, slice_is}
-use borrow.Author.Rules.{rules}
 use Rattle.gatecompile.proofs.gate_compile.Goals as goal
 
 pub returns : goal.returns

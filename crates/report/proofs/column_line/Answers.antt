@@ -1,7 +1,6 @@
 -- `column_line`: the line behind `events` where a list is opened, else the right one.
 use mathlib.Core.Path.{sym}
 use lib.Seq.{length-take-le}
-use borrow.Author.Rules.{rules}
 use Rattle.report.proofs.InputLaws.{column-opened, column-none}
 use Rattle.report.proofs.column_line.Goals as goal
 

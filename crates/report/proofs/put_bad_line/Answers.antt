@@ -1,5 +1,4 @@
 -- `put_bad_line`: 31 at the first field that differs, else 23 at the line.
-use borrow.Author.Rules.{rules}
 use Rattle.report.proofs.TableLaws.{right-ragged, columns-first}
 use Rattle.report.proofs.put_bad_line.Goals as goal
 

@@ -1,6 +1,5 @@
 -- `put_counted`: the lines of the tally, or the refusal.
 use mathlib.Core.Path.{refl}
-use borrow.Author.Rules.{rules}
 use Rattle.report.proofs.TableLaws.{counted_prints, counted-regions, refused_prints}
 use Rattle.report.proofs.put_counted.Goals as goal
 

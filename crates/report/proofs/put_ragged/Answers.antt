@@ -1,5 +1,4 @@
 -- `put_ragged`: the table's refusal, else that of the column line or 23 at the line.
-use borrow.Author.Rules.{rules}
 use Rattle.report.proofs.TableLaws.{ragged_prints, table-first}
 use Rattle.report.proofs.put_ragged.Goals as goal
 

@@ -1,15 +1,9 @@
 -- `put_regions`: the lines of the first r regions are written over the beginning.
-use mathlib.Core.Path.{◌≡◌, ◌∙◌, ap}
-use Prim.Native.Nat.{◌+◌, ◌-◌, ◌≤◌}
-use native.Mathlib.Omega.{arith}
-use borrow.Author.Rules.{rules}
-use lib.ListN.{length}
-use Rattle.text.proofs.OutputLaws.{over-length}
+use Prim.Native.Nat.{◌-◌, ◌≤◌}
 use Rattle.gates.specs.Gate.{regions}
 use Rattle.resolve.specs.Inner.Reading.{gates_at}
 use Rattle.events.proofs.PrintingLaws.{Written}
 use Rattle.report.specs.Report.{region_lines, count_numbers}
-use Rattle.report.proofs.ReportLaws.{lines_none, count_next, lines-short}
 use Rattle.report.proofs.put_regions.Given as goal
 
 abbrev pub invariant-loop-r : goal.invariant-loop-r

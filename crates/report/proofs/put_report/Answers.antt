@@ -4,7 +4,6 @@ use mathlib.Core.List.{[], ◌∷◌}
 use native.Mathlib.Omega.{arith}
 use lib.ListN.{take}
 use lib.Seq.{length-take-le}
-use borrow.Author.Rules.{rules}
 use Rattle.compiler.proofs.PlanLaws.{dims-read}
 use Rattle.report.proofs.InputLaws.{table_is, never_short, values-room, values_listed, line-ragged, input-printed}
 use Rattle.report.proofs.put_report.Goals as goal

@@ -1,6 +1,5 @@
 -- `put_tally`: the gates are read through the places of the lines; the lines of the regions, then `taken`, `spoilt`.
 use native.Mathlib.Omega.{arith}
-use borrow.Author.Rules.{rules}
 use Rattle.gates.specs.Gate.{regions}
 use Rattle.tables.specs.Head.{gates}
 use Rattle.resolve.proofs.StartLaws.{places, line-count}

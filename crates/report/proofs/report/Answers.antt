@@ -1,5 +1,4 @@
 -- `report`: over 65,536 bytes refusal 1, else what is printed of the input.
-use borrow.Author.Rules.{rules}
 use Rattle.report.proofs.InputLaws.{report_long}
 use Rattle.report.proofs.report.Goals as goal
 
