@@ -19,7 +19,7 @@ use Rattle.compiler.specs.declared.Refusal.{Refusal}
 use Rattle.compiler.specs.declared.Compiled.{Compiled}
 use Rattle.compiler.specs.declared.Compiled.TheVariants.{Written, Refused}
 use Rattle.compiler.proofs.VerdictLaws.{verdict-numbered, number-accepted, refused-number}
-use Rattle.events.specs.Printing.{refused_line, unless_refused}
+use Rattle.events.specs.Printing.{refused_line}
 use Rattle.planreport.specs.PlanText.{plan_text}
 use Rattle.planreport.specs.PlanReport.{plan_report_of}
 use Rattle.planreport.specs.Inner.Compiling.{HoldsPlan, compiled_text}

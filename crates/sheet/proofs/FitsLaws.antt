@@ -11,7 +11,7 @@ use lib.IntN.{ℤ}
 use lib.ListN.{length, length-append, length-map}
 use borrow.Author.Tests.{ltb-false}
 use Rattle.plans.specs.Form.{width}
-use Rattle.text.specs.Bytes.{bytes, every}
+use Rattle.text.specs.Bytes.{every}
 use Rattle.text.specs.Lines.{unlines}
 use Rattle.text.specs.Output.{last_digits, decimal}
 use Rattle.text.proofs.TestLaws.{and_left, and_right, passed_or_failed}

@@ -4,7 +4,7 @@ use mathlib.Core.List.{List, [], ◌∷◌, ◌++◌, flat_map, append_assoc, ap
 use Prim.Native.Nat.{ℕ, ◌+◌, ◌*◌, ◌<◌, ◌≤◌}
 use native.Mathlib.Numerals.{add-one}
 use native.Mathlib.Omega.{arith}
-use lib.ListN.{length, get_or, take, drop, length-append, length-take, length-drop, take-append-drop}
+use lib.ListN.{length, get_or, drop, length-append, length-take, length-drop, take-append-drop}
 use borrow.Author.Tests.{lt-ltb}
 use Rattle.text.specs.Bounded.{tab}
 use Rattle.text.specs.Bytes.{bytes}

@@ -1,5 +1,4 @@
 -- `plan_report`: what compiling into 4,096 words answered is printed.
-use borrow.Author.Rules.{rules}
 use Rattle.planreport.proofs.CompiledLaws.{plan-held, compiled-printed}
 use Rattle.planreport.proofs.plan_report.Goals as goal
 

@@ -1,7 +1,6 @@
 -- `put_compiled`: the text of the words that compiling reported, or the refusal.
 use mathlib.Core.Path.{sym}
 use lib.Seq.{length-take-le}
-use borrow.Author.Rules.{rules}
 use Rattle.planreport.proofs.CompiledLaws.{holds-words, words-printed, refusal-printed}
 use Rattle.planreport.proofs.put_compiled.Goals as goal
 

@@ -1,5 +1,4 @@
 -- `sheet`: over 65,536 bytes refusal 1, else the sheet of the input.
-use borrow.Author.Rules.{rules}
 use Rattle.sheet.proofs.InputLaws.{sheet_long}
 use Rattle.sheet.proofs.sheet.Goals as goal
 

@@ -1,6 +1,5 @@
 -- `put_end`: behind the end nothing is put.
 use mathlib.Core.Path.{refl, sym, ◌∙◌}
-use borrow.Author.Rules.{rules}
 use lib.Seq.{set_out}
 use Rattle.planreport.proofs.ProgressLaws.{byte_put}
 use Rattle.planreport.proofs.printing.put_end.Goals as goal

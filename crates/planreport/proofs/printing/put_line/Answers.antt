@@ -1,9 +1,8 @@
 -- `put_line`: the first i words, each with what stands behind it, are written.
 use mathlib.Core.Path.{refl, ◌∙◌, ap}
 use mathlib.Core.List.{[], ◌∷◌}
-use Prim.Native.Nat.{◌+◌, ◌-◌, ◌*◌, ◌≤◌}
+use Prim.Native.Nat.{◌+◌}
 use native.Mathlib.Omega.{arith}
-use borrow.Author.Rules.{rules}
 use lib.IntN.{pos}
 use lib.ListN.{length, get_or, drop}
 use mir.Syntax.{w32}
@@ -11,7 +10,7 @@ use mir.ValLaws.{to_z-of_z}
 use Rattle.text.proofs.OutputLaws.{over-length}
 use Rattle.planreport.specs.PlanText.{word_text}
 use Rattle.planreport.specs.Inner.Compiling.{ended_words}
-use Rattle.planreport.proofs.ProgressLaws.{Progress, progress_none, progress_more, progress_all}
+use Rattle.planreport.proofs.ProgressLaws.{progress_none, progress_more, progress_all}
 use Rattle.planreport.proofs.TextLaws.{line-ended, ended-more, ended-none}
 use Rattle.planreport.proofs.printing.put_line.Goals as goal
 

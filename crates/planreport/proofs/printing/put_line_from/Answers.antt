@@ -1,5 +1,4 @@
 -- `put_line_from`: the rest from a on is lent.
-use borrow.Author.Rules.{rules}
 use Rattle.text.proofs.WritingLaws.{over-lent}
 use Rattle.planreport.proofs.printing.put_line_from.Goals as goal
 

@@ -1,17 +1,15 @@
 -- `put_plan`: the first line and those of the steps before the ones that are left are written.
 use mathlib.Core.Path.{◌≡◌, refl, ◌∙◌}
-use mathlib.Core.List.{List, map, ◌++◌, [], ◌∷◌}
-use Prim.Native.Nat.{ℕ, ◌+◌, ◌*◌, ◌≤◌, ◌<◌}
+use mathlib.Core.List.{List, ◌++◌, [], ◌∷◌}
+use Prim.Native.Nat.{ℕ, ◌+◌, ◌≤◌, ◌<◌}
 use native.Mathlib.Omega.{arith}
-use borrow.Author.Rules.{rules}
 use lib.IntN.{ℤ}
 use lib.ListN.{length}
-use Rattle.text.specs.Lines.{unlines}
 use Rattle.plans.specs.Form.{steps_end}
 use Rattle.plans.specs.Words.{part}
 use Rattle.runreport.proofs.RunLaws.{count-is}
-use Rattle.planreport.specs.PlanText.{words_line, step_parts, plan_text}
-use Rattle.planreport.proofs.ProgressLaws.{Progress, progress_first, progress_more, progress_all}
+use Rattle.planreport.specs.PlanText.{words_line, plan_text}
+use Rattle.planreport.proofs.ProgressLaws.{progress_first, progress_more, progress_all}
 use Rattle.planreport.proofs.TextLaws.{plan-few, head-length, plan-first, plan-ends, place_inside, next_end, step-inside, step-next, step-length, steps-more, steps-none}
 use Rattle.planreport.proofs.printing.put_plan.Invariants.{left_text}
 use Rattle.planreport.proofs.printing.put_plan.Goals as goal

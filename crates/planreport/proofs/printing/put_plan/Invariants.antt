@@ -1,18 +1,13 @@
 -- `put_plan`: the first line and those of the steps before the ones that are left are written.
-use mathlib.Core.Path.{◌≡◌, refl, ◌∙◌}
-use mathlib.Core.List.{List, map, ◌++◌, [], ◌∷◌}
-use Prim.Native.Nat.{ℕ, ◌+◌, ◌*◌, ◌≤◌, ◌<◌}
-use native.Mathlib.Omega.{arith}
-use borrow.Author.Rules.{rules}
+use mathlib.Core.Path.{◌≡◌}
+use mathlib.Core.List.{List, map}
+use Prim.Native.Nat.{ℕ, ◌*◌, ◌≤◌}
 use lib.IntN.{ℤ}
 use lib.ListN.{length}
 use Rattle.text.specs.Lines.{unlines}
 use Rattle.plans.specs.Form.{steps_end}
-use Rattle.plans.specs.Words.{part}
-use Rattle.runreport.proofs.RunLaws.{count-is}
 use Rattle.planreport.specs.PlanText.{words_line, step_parts, plan_text}
-use Rattle.planreport.proofs.ProgressLaws.{Progress, progress_first, progress_more, progress_all}
-use Rattle.planreport.proofs.TextLaws.{plan-few, head-length, plan-first, plan-ends, place_inside, next_end, step-inside, step-next, step-length, steps-more, steps-none}
+use Rattle.planreport.proofs.ProgressLaws.{Progress}
 use Rattle.planreport.proofs.printing.put_plan.Given as goal
 
 -- the lines of the steps that are left

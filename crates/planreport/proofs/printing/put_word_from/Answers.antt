@@ -1,5 +1,4 @@
 -- `put_word_from`: the rest from a on is lent.
-use borrow.Author.Rules.{rules}
 use mir.Syntax.{w32}
 use mir.ValLaws.{to_z-of_z}
 use Rattle.text.proofs.WritingLaws.{over-lent}

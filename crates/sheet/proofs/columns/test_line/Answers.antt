@@ -1,5 +1,4 @@
 -- `test_line`: a column line by its names, another line not at all.
-use borrow.Author.Rules.{rules}
 use Rattle.sheet.proofs.columns.test_line.Goals as goal
 
 pub returns-then-headed : goal.returns-then-headed

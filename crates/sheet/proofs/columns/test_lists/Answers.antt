@@ -1,5 +1,4 @@
 -- `test_lists`: the column lines behind the first `events`, where it opens a list.
-use borrow.Author.Rules.{rules}
 use Rattle.events.proofs.ColumnLaws.{columns-split, columns-unsplit}
 use Rattle.sheet.proofs.columns.test_lists.Goals as goal
 

@@ -1,10 +1,7 @@
 -- `test_part`: the column lines before `at` are right, and `headed` says how the next line is read.
 use Prim.Native.Nat.{◌+◌, ◌-◌}
-use native.Mathlib.Omega.{arith}
-use borrow.Author.Rules.{rules}
 use lib.ListN.{length}
-use Rattle.text.proofs.LinesLaws.{find_from_lem, found_inside}
-use Rattle.sheet.proofs.ColumnLineLaws.{Tested, tested-none, tested-more, tested-wrong, tested-all}
+use Rattle.sheet.proofs.ColumnLineLaws.{Tested}
 use Rattle.sheet.proofs.columns.test_part.Given as goal
 
 abbrev pub invariant-loop-at : goal.invariant-loop-at

@@ -1,10 +1,7 @@
 -- `count_list`: the values put are those that are counted.
-use mathlib.Core.Path.{◌≡◌, sym, ◌∙◌, ap}
+use mathlib.Core.Path.{sym, ◌∙◌, ap}
 use native.Mathlib.Omega.{arith}
-use borrow.Author.Rules.{rules}
-use lib.ListN.{length}
 use lib.Seq.{length-take-le}
-use Rattle.text.proofs.OutputLaws.{over-length}
 use Rattle.counter.specs.Counting.{Counting}
 use Rattle.sheet.proofs.CountLaws.{kept-few, list_counted, list-most}
 use Rattle.sheet.proofs.counting.count_list.Goals as goal

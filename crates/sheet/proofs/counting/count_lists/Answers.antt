@@ -1,7 +1,7 @@
 -- `count_lists`: the lists before `at` are counted and their numbers written.
-use mathlib.Core.Path.{◌≡◌, sym, ◌∙◌, ap}
+use mathlib.Core.Path.{sym, ◌∙◌, ap}
 use mathlib.Core.List.{List}
-use Prim.Native.Nat.{ℕ, ◌+◌, ◌-◌, ◌*◌, ◌<◌}
+use Prim.Native.Nat.{ℕ, ◌+◌, ◌*◌, ◌<◌}
 use native.Mathlib.Omega.{arith}
 use borrow.Author.Rules.{rules}
 use lib.ListN.{length, drop, length-drop}
@@ -12,7 +12,7 @@ use Rattle.counter.specs.Counting.{count_of}
 use Rattle.events.specs.Parting.{table_part, table_end}
 use Rattle.events.specs.Listing.{values}
 use Rattle.events.proofs.ListsLaws.{part-is-table}
-use Rattle.sheet.proofs.CountLaws.{Done, done_none, events-near, list-good, lists-room, done_more, all-counted}
+use Rattle.sheet.proofs.CountLaws.{done_none, events-near, list-good, lists-room, done_more, all-counted}
 use Rattle.sheet.proofs.counting.count_lists.Goals as goal
 
 pub loop-at-init : goal.loop-at-init

@@ -1,6 +1,5 @@
 -- `put_at`: behind the end nothing is put.
 use mathlib.Core.Path.{sym}
-use borrow.Author.Rules.{rules}
 use lib.Seq.{set_out}
 use Rattle.sheet.proofs.counting.put_at.Goals as goal
 

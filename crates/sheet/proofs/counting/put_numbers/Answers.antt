@@ -1,11 +1,11 @@
 -- `put_numbers`: the first r counts are written over the beginning.
-use mathlib.Core.Path.{◌≡◌, refl, sym, ◌∙◌, ap}
-use Prim.Native.Nat.{◌-◌, ◌<◌}
+use mathlib.Core.Path.{refl, ◌∙◌, ap}
+use Prim.Native.Nat.{◌<◌}
 use native.Mathlib.Omega.{arith}
 use borrow.Author.Rules.{rules}
 use lib.ListN.{length, get_or}
 use Rattle.text.proofs.OutputLaws.{over-length}
-use Rattle.sheet.proofs.ColumnLaws.{CountsTo, counts-none, counts-more, numbers-written}
+use Rattle.sheet.proofs.ColumnLaws.{counts-none, counts-more, numbers-written}
 use Rattle.sheet.proofs.counting.put_numbers.Goals as goal
 
 pub loop-r-init : goal.loop-r-init

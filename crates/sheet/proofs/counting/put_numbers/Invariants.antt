@@ -1,11 +1,6 @@
 -- `put_numbers`: the first r counts are written over the beginning.
-use mathlib.Core.Path.{◌≡◌, refl, sym, ◌∙◌, ap}
-use Prim.Native.Nat.{◌-◌, ◌<◌}
-use native.Mathlib.Omega.{arith}
-use borrow.Author.Rules.{rules}
-use lib.ListN.{length, get_or}
-use Rattle.text.proofs.OutputLaws.{over-length}
-use Rattle.sheet.proofs.ColumnLaws.{CountsTo, counts-none, counts-more, numbers-written}
+use Prim.Native.Nat.{◌-◌}
+use Rattle.sheet.proofs.ColumnLaws.{CountsTo}
 use Rattle.sheet.proofs.counting.put_numbers.Given as goal
 
 abbrev pub invariant-loop-r : goal.invariant-loop-r

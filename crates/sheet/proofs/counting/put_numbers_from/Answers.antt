@@ -1,5 +1,4 @@
 -- `put_numbers_from`: the rest from a on is lent.
-use borrow.Author.Rules.{rules}
 use Rattle.text.proofs.WritingLaws.{over-lent}
 use Rattle.sheet.proofs.counting.put_numbers_from.Goals as goal
 

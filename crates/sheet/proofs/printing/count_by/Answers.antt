@@ -1,5 +1,4 @@
 -- `count_by`: there are 64 counts.
-use borrow.Author.Rules.{rules}
 use borrow.Author.Tests.{lt-ltb, le-ltb}
 use Rattle.sheet.specs.Inner.Numbers.{count_by}
 use Rattle.sheet.proofs.printing.count_by.Goals as goal

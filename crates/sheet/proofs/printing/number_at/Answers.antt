@@ -1,6 +1,5 @@
 -- `number_at`: there is nothing behind the columns.
 use mathlib.Core.Path.{sym}
-use borrow.Author.Rules.{rules}
 use lib.ListN.{get_or-eq_default}
 use Rattle.sheet.proofs.printing.number_at.Goals as goal
 

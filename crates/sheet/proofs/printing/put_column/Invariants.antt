@@ -1,14 +1,9 @@
 -- `put_column`: the fields of the first j lists are written.
-use mathlib.Core.Path.{◌≡◌, ◌∙◌, ap}
 use mathlib.Core.List.{flat_map}
-use Prim.Native.Nat.{◌+◌, ◌-◌, ◌≤◌}
-use native.Mathlib.Omega.{arith}
-use borrow.Author.Rules.{rules}
-use lib.ListN.{length}
+use Prim.Native.Nat.{◌-◌, ◌≤◌}
 use Rattle.text.specs.Inner.Writing.{WritesFrom}
 use Rattle.events.specs.Printing.{number_field}
 use Rattle.sheet.specs.Inner.Columns.{column_of}
-use Rattle.sheet.proofs.PrintLaws.{from-length, field_short, column-length, column-none, column-next}
 use Rattle.sheet.proofs.printing.put_column.Given as goal
 
 abbrev pub invariant-loop-j : goal.invariant-loop-j

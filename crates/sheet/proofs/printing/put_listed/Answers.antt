@@ -1,6 +1,5 @@
 -- `put_listed`: the name, the column, the sum, one behind the other.
 use native.Mathlib.Omega.{arith}
-use borrow.Author.Rules.{rules}
 use Rattle.sheet.specs.Inner.Columns.{column_of}
 use Rattle.sheet.proofs.PrintLaws.{field_short, listed-written}
 use Rattle.sheet.proofs.printing.put_listed.Goals as goal

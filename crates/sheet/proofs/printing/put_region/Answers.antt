@@ -1,7 +1,6 @@
 -- `put_region`: the share and LF stand behind the column and its sum.
 use mathlib.Core.Path.{◌≡◌, ◌∙◌}
 use native.Mathlib.Omega.{arith}
-use borrow.Author.Rules.{rules}
 use lib.ListN.{get_or}
 use Rattle.sheet.specs.Inner.Columns.{column_of}
 use Rattle.sheet.proofs.PrintLaws.{field_short, count_low, region-written}

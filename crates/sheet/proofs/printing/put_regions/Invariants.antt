@@ -1,17 +1,10 @@
 -- `put_regions`: the lines of the first r regions are written over the beginning, each of at most 196,682 bytes.
-use mathlib.Core.Path.{◌≡◌, ◌∙◌, ap}
-use Prim.Native.Nat.{◌+◌, ◌-◌, ◌*◌, ◌≤◌}
-use native.Mathlib.Omega.{arith}
-use borrow.Author.Rules.{rules}
-use lib.ListN.{length}
-use Rattle.text.proofs.OutputLaws.{over-length}
+use Prim.Native.Nat.{◌-◌, ◌*◌, ◌≤◌}
 use Rattle.gates.specs.Gate.{regions}
 use Rattle.resolve.specs.Inner.Reading.{gates_at}
 use Rattle.events.proofs.PrintingLaws.{Written}
 use Rattle.report.specs.Report.{region_lines}
-use Rattle.report.proofs.ReportLaws.{lines_none}
 use Rattle.sheet.specs.Inner.Numbers.{numbers_by}
-use Rattle.sheet.proofs.PrintLaws.{region-next}
 use Rattle.sheet.proofs.printing.put_regions.Given as goal
 
 abbrev pub invariant-loop-r : goal.invariant-loop-r

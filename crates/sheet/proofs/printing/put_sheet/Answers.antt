@@ -1,7 +1,5 @@
 -- `put_sheet`: the gates are read through the places of the lines; the lines of the regions, those that follow, `events`.
-use Prim.Native.Nat.{◌+◌}
 use native.Mathlib.Omega.{arith}
-use borrow.Author.Rules.{rules}
 use Rattle.resolve.proofs.StartLaws.{places, line-count}
 use Rattle.compiler.proofs.VerdictLaws.{number-accepted}
 use Rattle.report.proofs.AcceptedLaws.{names-short, lines-some, gates_are}

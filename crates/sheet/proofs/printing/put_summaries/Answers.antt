@@ -1,6 +1,5 @@
 -- `put_summaries`: the three lines, one behind the other.
 use native.Mathlib.Omega.{arith}
-use borrow.Author.Rules.{rules}
 use Rattle.sheet.specs.Inner.Numbers.{summaries_by}
 use Rattle.sheet.proofs.PrintLaws.{summaries-written}
 use Rattle.sheet.proofs.printing.put_summaries.Goals as goal

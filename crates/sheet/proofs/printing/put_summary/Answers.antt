@@ -1,6 +1,5 @@
 -- `put_summary`: LF ends the line.
 use native.Mathlib.Omega.{arith}
-use borrow.Author.Rules.{rules}
 use Rattle.sheet.specs.Inner.Columns.{column_of}
 use Rattle.sheet.proofs.PrintLaws.{summary_written}
 use Rattle.sheet.proofs.printing.put_summary.Goals as goal
