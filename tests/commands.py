@@ -36,6 +36,7 @@ else
     echo "fn $name::main: proved" >&2
     printf '#!/bin/sh\\ncat\\n' >"out/$name"
     chmod +x "out/$name"
+    : >"out/$name.o"
     sum >"out/$name.stamp"
 fi
 echo "rt: running out/$name; to give it other input, run that file yourself" >&2
@@ -212,25 +213,22 @@ def building(tests):
         expect('a file taken away, made', 0, 5, True)
         os.remove(path('target/bin/gatecount'))
         expect('a program taken away', 0, 6, False)
+        os.remove(path('target/obj/gatecount.o'))
+        expect('its object file taken away', 0, 7, False)
+        tests.note(os.path.exists(path('target/obj/gatecount.o')), 'making: the object file of a program')
+        os.remove(path('target/obj/gatecount.o'))
+        os.remove(path('crates/gatecount/out/gatecount.o'))
+        expect('its object file taken away, that of rt too', 0, 8, False)
+        tests.note(os.path.exists(path('target/obj/gatecount.o')), 'making: the object file of a program again')
         touched('crates.txt')
-        expect('the list of crates', 0, 7, False)
+        expect('the list of crates', 0, 9, False)
         write(path('broken'), '')
         touched('crates/gatecount/src/lib.rt')
-        expect('what cannot be proved', 3, 8, False)
+        expect('what cannot be proved', 3, 10, False)
         tests.note(not os.path.exists(path('target/bin/gatecount')), 'making: a program that cannot be proved is not there')
-        expect('what cannot be proved, again', 3, 9, False)
+        expect('what cannot be proved, again', 3, 11, False)
         os.remove(path('broken'))
-        expect('mended', 0, 10, False)
-        for seconds, what, calls, is_taken in ((30, 'a program that rt ci built', 10, True), (60, 'a program that rt ci built before a file was changed', 11, False)):
-            # rt ci began so many seconds ago; a file was changed 50 seconds ago.
-            touched('crates/gatecount/src/lib.rt')
-            write(path('target/build/ci'), '')
-            os.utime(path('target/build/ci'), (began - seconds, began - seconds))
-            write(path('crates/gatecount/out/gatecount'), '#!/bin/sh\ncat # by rt ci\n', executable=True)
-            expect(what, 0, calls, False)
-            tests.same('making: %s: is it taken' % what, is_taken, b'# by rt ci' in read(path('target/bin/gatecount')))
-            expect(what + ', made', 0, calls, True)
-
+        expect('mended', 0, 12, False)
         def archive(what, calls):
             """One call of tools/build for an archive: how often rt was called until then."""
             status, output, _ = run([path('tools/build'), 'gatec'], env=environment)
