@@ -12,22 +12,35 @@ from harness import run
 WORKED = 'examples/worked.txt'
 CRUISE = 'examples/cruise.txt'
 
-# Stands for rt in a small repository: notes each call, and builds a program that copies its input where the crates' text is not that of the last time;
-# fails where the file `broken` is there.
+# Stands for rt in a small repository, in the folder of a crate: notes each call; builds a program that copies its input, where it or the crates' text is not
+# that of the last time, and runs it; or builds an archive. It fails where the file `broken` is there.
 RT = '''#!/bin/sh
-echo "$@" >>calls
-[ ! -e broken ] || { echo "rt: $2 NOT PROVED"; exit 1; }
-mkdir -p target/bin target/stamp
-now=$(cat crates/*/src/* | cksum)
-if [ "$now" = "$(cat "target/stamp/$2" 2>/dev/null)" ]; then
-    echo "rt: $2 proved (unchanged since it was last proved)"
+name=$(basename "$PWD")
+echo "$name $*" >>../../calls
+[ ! -e ../../broken ] || { echo "fn $name::main: no proof"; exit 1; }
+mkdir -p out
+sum() { cat ../*/src/* "out/$name" 2>/dev/null | cksum; }
+case $* in
+lib)
+    echo "rt: chose --jobs 2 for $name"
+    echo '!<arch>' >"out/lib$name.a"
     exit 0
+    ;;
+run) ;;
+*) exit 2 ;;
+esac
+if [ "$(sum)" = "$(cat "out/$name.stamp" 2>/dev/null)" ]; then
+    echo "rt: nothing has changed since the last proved build, by out/$name.stamp, so nothing is checked now" >&2
+else
+    echo "rt: chose --jobs 2 for $name" >&2
+    echo "fn $name::main: proved" >&2
+    printf '#!/bin/sh\\ncat\\n' >"out/$name"
+    chmod +x "out/$name"
+    : >"out/$name.o"
+    sum >"out/$name.stamp"
 fi
-echo "rt: $2 proved (0 s)"
-echo "fn $2::main: proved"
-echo "$now" >"target/stamp/$2"
-printf '#!/bin/sh\\ncat\\n' >"target/bin/$2"
-chmod +x "target/bin/$2"
+echo "rt: running out/$name; to give it other input, run that file yourself" >&2
+"out/$name"
 '''
 
 
@@ -53,12 +66,11 @@ def products(kind):
 
 # ---------------------------------------------------------------- a command and its exit status
 
-def failures(tests, name, program, data, has_status):
-    """What goes wrong is told on standard error. A Rattle program has no exit status: the commands of tools/ give it one."""
+def failures(tests, name, program, data, is_command):
+    """What fails of reading and writing is told on standard error, and the exit status is not 0; that of the commands of tools/ is 1."""
     def failed(what, status, told):
-        tests.note(told != b'' or status not in (None, 0), name + what + ': it is told')
-        if has_status:
-            tests.same(name + what + ': exit status', 1, status)
+        tests.note(told != b'', name + what + ': it is told')
+        tests.note(status == 1 or status not in (None, 0) and not is_command, name + what + ': exit status', 1, status)
 
     status, output, told = run(program, data)
     tests.same(name + 'a good input: exit status, and nothing on standard error', (0, b''), (status, told))
@@ -112,16 +124,18 @@ def arguments(tests, command, folder):
 
 
 def each_has_a_command(tests):
-    """tools/products.txt has all programs and archives; each program, and nothing else, has a link in tools/ to the script that runs it."""
+    """tools/products.txt has all programs and archives; each program, and nothing else, has a file in tools/ that runs it."""
     with open('tools/products.txt', encoding='utf-8') as file:
         listed = sorted(line.split()[1] for line in file if line.startswith('program '))
     tests.same('tools/products.txt: the programs', sorted(path.split('/')[1] for path in glob.glob('crates/*/src/main.rt')),
                sorted(name for name, _ in products('program')))
     tests.same('tools/products.txt: the archives', sorted({path.split('/')[1] for path in glob.glob('crates/*/src/*.rt') if b'pub extern "C" fn' in read(path)}),
                sorted(name for name, _ in products('archive')))
-    links = sorted(name for name in os.listdir('tools') if os.path.islink('tools/' + name))
-    tests.same('the links in tools/', listed, links)
-    tests.same('where they lead', {'run-program'}, {os.readlink('tools/' + name) for name in links})
+    texts = {name: read('tools/' + name) for name in os.listdir('tools') if os.path.isfile('tools/' + name)}
+    running = sorted(name for name, text in texts.items() if b'/run-program"' in text)
+    tests.same('the files in tools/ that run a program', listed, running)
+    tests.same('what they are but for the name', 1, len({texts[name].replace(name.encode(), b'NAME') for name in running}))
+    tests.note(all(os.access('tools/' + name, os.X_OK) for name in running), 'the files in tools/ that run a program can be executed')
 
 
 # ---------------------------------------------------------------- making what is stale
@@ -133,7 +147,7 @@ def building(tests):
             return os.path.join(folder, name)
 
         def expect(what, status, calls, silent, program='gatecount', data=b'given\n'):
-            """One run: its exit status, how often rt was called, whether standard error is empty."""
+            """One run: its exit status, how often rt was called until then, whether standard error is empty."""
             had = run([path('tools/' + program)], data, env=environment)
             made = len(read(path('calls')).splitlines()) if os.path.exists(path('calls')) else 0
             tests.same('making: ' + what, (status, data if status == 0 else b'', silent, calls), had[:2] + (had[2] == b'', made))
@@ -146,7 +160,7 @@ def building(tests):
                     os.utime(os.path.join(at, name), (began - seconds, began - seconds))
 
         def settled():
-            """All was made after all that it is made of."""
+            """All was made after all that it is made of; what rt keeps is of no account."""
             aged('crates', 200)
             os.utime(path('crates.txt'), (began - 200, began - 200))
             aged('target', 100)
@@ -159,8 +173,8 @@ def building(tests):
         began = time.time()
         environment = dict(os.environ, PATH=path('kit') + os.pathsep + os.environ['PATH'])
         shutil.copytree('tools', path('tools'), symlinks=True)
-        write(path('crates.txt'), '# a comment: x\nlaws:\ncounter: laws\ngatecount: counter io libc\ngateplan: laws io\nother:\n')
-        for name in ('laws', 'counter', 'gatecount', 'gateplan', 'other'):
+        write(path('crates.txt'), '# a comment: x\nlaws:\ncounter: laws\ngatecount: counter csv\ngateplan: laws\ngatec staticlib: laws # for C\nother:\n')
+        for name in ('laws', 'counter', 'gatecount', 'gateplan', 'gatec', 'other'):
             write(path('crates/%s/src/lib.rt' % name), name)
         write(path('crates/counter/src/more.rt'), '')
         write(path('crates/laws/must-fail/one.edit'), '')
@@ -173,7 +187,7 @@ def building(tests):
         write(path('kit/rt'), RT, executable=True)
 
         told = expect('a program that is missing', 0, 1, False)
-        tests.note(b'rt: gatecount proved (0 s)' in told and b'fn ' not in told, 'making: what rt says of crates is told')
+        tests.note(b'rt: chose --jobs 2 for gatecount' in told and b'fn ' not in told, 'making: what rt says itself is told')
         expect('a program that is fresh', 0, 1, True)
         expect('another program', 0, 2, False, 'gateplan')
         expect('another program that is fresh', 0, 2, True, 'gateplan')
@@ -181,12 +195,14 @@ def building(tests):
         expect('a program whose crate is not there', 3, 2, False, 'gaterun')
         touched('crates/laws/src/lib.rt')
         told = expect('a file of a crate that it depends on by another, written again as it was', 0, 3, False)
-        tests.note(b'unchanged' not in told, 'making: of crates that are unchanged nothing is told')
+        tests.note(b'rt: ' not in told, 'making: of what is unchanged rt tells nothing')
         expect('a program that rt found unchanged', 0, 3, True)
         touched('crates/other/src/lib.rt')
         expect('a file of a crate that it does not depend on', 0, 3, True)
         touched('crates/laws/must-fail/one.edit')
         expect('a must-fail edit', 0, 3, True)
+        touched('crates/gatecount/out/gatecount.stamp')
+        expect('what rt keeps', 0, 3, True)
         write(path('crates/laws/src/lib.rt'), 'changed')
         touched('crates/laws/src/lib.rt')
         expect('a changed file', 0, 4, False)
@@ -197,15 +213,32 @@ def building(tests):
         expect('a file taken away, made', 0, 5, True)
         os.remove(path('target/bin/gatecount'))
         expect('a program taken away', 0, 6, False)
+        os.remove(path('target/obj/gatecount.o'))
+        expect('its object file taken away', 0, 7, False)
+        tests.note(os.path.exists(path('target/obj/gatecount.o')), 'making: the object file of a program')
+        os.remove(path('target/obj/gatecount.o'))
+        os.remove(path('crates/gatecount/out/gatecount.o'))
+        expect('its object file taken away, that of rt too', 0, 8, False)
+        tests.note(os.path.exists(path('target/obj/gatecount.o')), 'making: the object file of a program again')
         touched('crates.txt')
-        expect('the list of crates', 0, 7, False)
+        expect('the list of crates', 0, 9, False)
         write(path('broken'), '')
         touched('crates/gatecount/src/lib.rt')
-        expect('what cannot be proved', 3, 8, False)
+        expect('what cannot be proved', 3, 10, False)
         tests.note(not os.path.exists(path('target/bin/gatecount')), 'making: a program that cannot be proved is not there')
-        expect('what cannot be proved, again', 3, 9, False)
+        expect('what cannot be proved, again', 3, 11, False)
         os.remove(path('broken'))
-        expect('mended', 0, 10, False)
+        expect('mended', 0, 12, False)
+        def archive(what, calls):
+            """One call of tools/build for an archive: how often rt was called until then."""
+            status, output, _ = run([path('tools/build'), 'gatec'], env=environment)
+            tests.same('making: ' + what, (0, b'', b'!<arch>\n', [b'gatec lib'] * calls),
+                       (status, output, read(path('target/staticlib/libgatec.a')), [line for line in read(path('calls')).splitlines() if line.startswith(b'gatec ')]))
+
+        archive('an archive that is missing', 1)
+        archive('an archive that is fresh', 1)
+        touched('crates/laws/src/lib.rt')
+        archive('an archive, of which a crate below was changed', 2)
         status, _, _ = run([path('tools/build'), 'none'], env=environment)
         tests.same('making: a name that is in no list', 2, status)
 

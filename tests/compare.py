@@ -110,16 +110,13 @@ def command(path):
 
 
 def run(args, data):
-    """What a process writes to standard output, or None if it hangs or is killed.
-
-    The paper gives no exit status, so none is asked for.
-    """
+    """What a process writes to standard output, or None if it hangs or has another exit status than 0, as where it is killed."""
     try:
         done = subprocess.run(args, input=data, stdout=subprocess.PIPE,
                               stderr=subprocess.DEVNULL, timeout=PATIENCE)
     except subprocess.TimeoutExpired:
         return None
-    return None if done.returncode < 0 else done.stdout
+    return None if done.returncode != 0 else done.stdout
 
 
 def ask(args, questions):

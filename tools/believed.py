@@ -30,9 +30,9 @@ REQUESTS = {
 
 
 def crates():
-    """The crates in the order of crates.txt."""
+    """The crates in the order of crates.txt, where `staticlib` may stand behind a name."""
     with open('crates.txt', encoding='utf-8') as file:
-        return [line.split(':')[0].strip() for line in file if ':' in line and not line.startswith('#')]
+        return [line.split(':')[0].split()[0] for line in file if ':' in line and not line.startswith('#')]
 
 
 def title(path):
@@ -46,6 +46,12 @@ def lines(path):
     with open(path, encoding='utf-8') as file:
         kept = [line.strip() for line in file]
     return sum(1 for line in kept if line and not line.startswith(('--', 'use ', 'pub mod ')))
+
+
+def names_inner(path):
+    """Whether a file imports from specs/Inner of any crate, or passes on what stands there."""
+    with open(path, encoding='utf-8') as file:
+        return re.search(r'^(?!\s*--).*\.specs\.Inner\b', file.read(), re.M) is not None
 
 
 def files(crate):
@@ -84,7 +90,7 @@ def main():
         with open(DOCUMENT, 'w', encoding='utf-8') as file:
             file.write(before + BEGIN + text + END + after)
         return
-    inner = [path for crate in crates() for path, _ in files(crate) if re.search(r'^use \S*\.specs\.Inner\.', open(path, encoding='utf-8').read(), re.M)]
+    inner = [path for crate in crates() for path, _ in files(crate) if names_inner(path)]
     if inner:
         sys.exit('definitions to believe that rest on inner ones: %s' % ' '.join(inner))
     if held != text:

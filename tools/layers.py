@@ -31,9 +31,10 @@ def read_crates(text):
     for line in text.splitlines():
         if line.startswith('#'):
             group = re.split('[:.]', line[1:].strip())[0].replace('`', '')
-        name, colon, rest = line.partition('#')[0].partition(':')
+        head, colon, rest = line.partition('#')[0].partition(':')
         if colon:
-            needs[name.strip()], groups[name.strip()] = rest.split(), group
+            name = head.split()[0]          # `staticlib` may stand behind it
+            needs[name], groups[name] = rest.split(), group
     return {name: [other for other in rest if other in needs] for name, rest in needs.items()}, groups
 
 

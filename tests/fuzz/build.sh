@@ -1,8 +1,8 @@
 # build.sh: what tests/fuzz/run and tests/fuzz/check build with; sourced at the top of the repository.
 out=target/fuzz
-kit=${RATTLE_HOME:-$(dirname "$(dirname "$(readlink -f "$(command -v rt)")")")}
-own=$kit/on/$(uname -m)
-os_code=$kit/lib/libos_c.a
+kit=$(dirname "$(dirname "$(readlink -f "$(command -v rt)")")")
+# What rt links a program with: what it needs of the system, and the heap.
+system="$kit/c/libos_c.a $kit/c/liblibc_c.a"
 
 # The tries and the plain counter, without instrumentation.
 harness() {
@@ -24,7 +24,8 @@ plain_counter() {
 faulty_table() { sed "$1" tests/fuzz/table.c | gcc -std=c11 -O2 -Iinclude -Itests/fuzz -x c -c - -o $out/objects/table.o; }
 
 # Renames in a program's object file what it starts with and what it reads and writes with: lent_program NAME FROM TO. It defines
-# no other global name, so that two programs do not clash.
+# no other global name, so that two programs do not clash. Where the processor lacks what the code needs, the program says so by
+# __write, which stays as it is, and ends.
 lent_program() {
     objcopy --redefine-sym main="$1_main" --redefine-sym read=given_read --redefine-sym write=printed_write "$2" "$3"
 }
@@ -36,6 +37,6 @@ objects() { printf "$out/objects/%s.o " counter plan table plain "$@"; }
 replay() {
     local to=$1
     shift
-    # shellcheck disable=SC2046
-    gcc -no-pie $(objects replay) "$@" "$os_code" -o "$to"
+    # shellcheck disable=SC2046,SC2086
+    gcc -no-pie $(objects replay) "$@" $system -o "$to"
 }

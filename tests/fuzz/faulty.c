@@ -101,7 +101,9 @@ int __wrap_gatesheet_main(int argc, char **argv)
     in_sheet = 0;
     if (FAULT == 12) /* it prints a byte more */
         __real_printed_write(1, "", 1);
-    return FAULT == 13 ? 1 : status; /* it ends with another status */
+    if (FAULT == 13) /* it ends as if it had failed */
+        return 1;
+    return FAULT == 20 ? 0 : status; /* it ends as if nothing had failed */
 }
 
 /* It takes a read that fails as the end of the input. */

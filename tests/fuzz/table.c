@@ -72,7 +72,8 @@ ssize_t printed_write(int fd, const void *from, size_t length)
     return (ssize_t)length;
 }
 
-static void lent_run(const struct program *program, const uint8_t *data, size_t size, size_t piece, int bad_read, int bad_write)
+/* Runs a program; its exit status. */
+static int lent_run(const struct program *program, const uint8_t *data, size_t size, size_t piece, int bad_read, int bad_write)
 {
     run.data = data;
     run.size = size;
@@ -81,7 +82,7 @@ static void lent_run(const struct program *program, const uint8_t *data, size_t 
     run.piece = piece;
     run.bad_read = bad_read;
     run.bad_write = bad_write;
-    MUST(program->start(1, (char *[]){program->name, NULL}) == 0);
+    return program->start(1, (char *[]){program->name, NULL});
 }
 
 /* ---- The same put together here: text ---- */
@@ -486,16 +487,16 @@ static void want_sheet(const uint8_t *data, size_t size)
 /* Runs a program, which must print what is wanted. */
 static void same_printed(const struct program *program, const uint8_t *data, size_t size, uint64_t seed)
 {
-    size_t piece = seed % 4 ? (size_t)1 << 22 : 1 + seed % 5000, name_len = strlen(program->name);
-    lent_run(program, data, size, piece, 0, 0);
+    size_t piece = seed % 4 ? (size_t)1 << 22 : 1 + seed % 5000;
+    MUST(lent_run(program, data, size, piece, 0, 0) == 0);
     MUST(run.told_len == 0);
     MUST(run.printed_len == wanted_len);
     MUST(memcmp(run.printed, wanted, wanted_len) == 0);
-    /* Where reading or writing fails, it is told, and nothing is printed. */
+    /* Where reading or writing fails, it is told, the exit status is not 0, and nothing is printed. */
     for (int reading = 0; seed % 16 == 0 && size <= INPUT_BYTES && reading < 2; reading++) {
-        lent_run(program, data, size, piece, reading, !reading);
+        MUST(lent_run(program, data, size, piece, reading, !reading) != 0);
         MUST(run.printed_len == 0);
-        MUST(run.told_len > name_len && memcmp(run.told, program->name, name_len) == 0);
+        MUST(run.told_len > 7 && memcmp(run.told, "Error: ", 7) == 0);
     }
 }
 
