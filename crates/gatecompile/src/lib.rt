@@ -1,5 +1,5 @@
 // The C interface of the compiler. The answer is written whole into `out`.
-// `sets` (lib.Seq) stores the elements of a row one by one from an index on, as far as `out` goes.
+// `sets` (of std's lemmas on lists) stores the elements of a row one by one from an index on, as far as `out` goes.
 #![tactic(auto)]
 
 ghost use Rattle.std.specs.Prelude.{◌≡◌, []};

@@ -1,5 +1,5 @@
 // The C interface: judging one event. An archive of its own, so that the counting loop is the only caller of its body in the other.
-// `sets` (lib.Seq) stores the elements of a row one by one from an index on, as far as `out` goes.
+// `sets` (of std's lemmas on lists) stores the elements of a row one by one from an index on, as far as `out` goes.
 #![tactic(auto)]
 
 ghost use Rattle.std.specs.Prelude.{◌≡◌};
