@@ -1,4 +1,4 @@
-// Reads a table and its events from standard input and prints the count of each region, or the refusal.
+// gatecount: reads a table and its events from standard input and prints the count of each region, or the refusal.
 #![tactic(auto)]
 
 ghost use Rattle.std.specs.Prelude.{◌≡◌, length};

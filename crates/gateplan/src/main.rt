@@ -1,4 +1,4 @@
-// Reads a table from standard input and prints its plan, or the refusal.
+// gateplan: reads a table from standard input and prints its plan, or the refusal.
 #![tactic(auto)]
 
 ghost use Rattle.std.specs.Prelude.{◌≡◌, length};

@@ -1,4 +1,4 @@
-// Reads the text of a plan and its events from standard input and prints the count of each region by its number, or the refusal.
+// gaterun: reads the text of a plan and its events from standard input and prints the count of each region by its number, or the refusal.
 #![tactic(auto)]
 
 ghost use Rattle.std.specs.Prelude.{◌≡◌, length};

@@ -1,4 +1,4 @@
-// Reads a table and lists of events from standard input and prints the counts of each list, their sums and shares, or the refusal.
+// gatesheet: reads a table and lists of events from standard input and prints the counts of each list, their sums and shares, or the refusal.
 #![tactic(auto)]
 
 ghost use Rattle.std.specs.Prelude.{◌≡◌, length};
