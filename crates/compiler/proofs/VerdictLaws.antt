@@ -36,7 +36,8 @@ named-cond : (b : Bool) (v w : Verdict) → 1 ≤ v.number → 1 ≤ w.number �
 named-cond true v w h k = h
 named-cond false v w h k = k
 
-unless-line-named : (number : ℕ → ℕ) (good : ℕ → Bool) (k : ℕ) (v : Verdict) → ((i : ℕ) → 1 ≤ number i) → 1 ≤ v.number → 1 ≤ (unless_line number good k v).number
+unless-line-named : (number : ℕ → ℕ) (good : ℕ → Bool) (k : ℕ) (v : Verdict) → ((i : ℕ) → 1 ≤ number i)
+    → 1 ≤ v.number → 1 ≤ (unless_line number good k v).number
 unfolding unless_line
 unless-line-named number good k v h l =
     named-cond (ltb (first_bad good 0 k) k) (refused (number (first_bad good 0 k)) (first_bad good 0 k + 2)) v (h (first_bad good 0 k)) l
@@ -67,7 +68,8 @@ cond-numbered false k place v h f e = f e
 
 line-numbered : (number : ℕ → ℕ) (good : ℕ → Bool) (k : ℕ) (v : Verdict) → ((i : ℕ) → 1 ≤ number i) → Numbered v → Numbered (unless_line number good k v)
 unfolding unless_line
-line-numbered number good k v h f = cond-numbered (ltb (first_bad good 0 k) k) (number (first_bad good 0 k)) (first_bad good 0 k + 2) v (h (first_bad good 0 k)) f
+line-numbered number good k v h f = cond-numbered (ltb (first_bad good 0 k) k) (number (first_bad good 0 k))
+    (first_bad good 0 k + 2) v (h (first_bad good 0 k)) f
 
 size-numbered : (slice words : ℕ) → Numbered (size_verdict slice words)
 unfolding size_verdict

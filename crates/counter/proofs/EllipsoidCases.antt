@@ -126,11 +126,15 @@ unfolding minor_cases matrix_good matrix3_good
 minor_cases_lem = (refl, (refl, (refl, (refl, (refl, (refl, tt))))))
 
 plan_cases_lem : Hold plan_cases
-unfolding plan_cases all any how_many first_bad word number in_range on_scale part has_bit with_bit kind_of spans earlier free parent_good differs dimension_good entry
-    matrix_good matrix3_good matrix3_word ellipsoid_word kind_at region_at length_at body_at next_at head_word_for steps_word_for steps_end width step_count word_good_for
-    plan_end lowest_bad_for form_for check_for value_in ellipsoid_in in_ellipsoid parent_in step_in settled bits_of value_good taken first_spoilt members judge_passed judge_of
+unfolding plan_cases all any how_many first_bad word number in_range on_scale part has_bit with_bit kind_of
+    spans earlier free parent_good differs dimension_good entry
+    matrix_good matrix3_good matrix3_word ellipsoid_word kind_at region_at length_at body_at next_at head_word_for
+    steps_word_for steps_end width step_count word_good_for
+    plan_end lowest_bad_for form_for check_for value_in ellipsoid_in in_ellipsoid parent_in step_in settled
+    bits_of value_good taken first_spoilt members judge_passed judge_of
     ellipsoid_position ellipsoid_on step_on outline_from outline_of
-plan_cases_lem = (refl, (refl, (refl, (refl, (refl, (refl, (refl, (refl, (refl, (refl, (refl, (refl, (refl, (refl, (refl, (refl, (refl, (refl, tt))))))))))))))))))
+plan_cases_lem =
+    (refl, (refl, (refl, (refl, (refl, (refl, (refl, (refl, (refl, (refl, (refl, (refl, (refl, (refl, (refl, (refl, (refl, (refl, tt))))))))))))))))))
 
 pub ellipsoid_cases : Hold tilted_cases × Hold ball_cases × Hold minor_cases × Hold plan_cases
 ellipsoid_cases = (tilted_cases_lem, ball_cases_lem, minor_cases_lem, plan_cases_lem)

@@ -390,7 +390,8 @@ module _ (p : List ℤ) (n : ℕ) (group : List ℤ) (taken : ℕ) where
         test : ℕ → Bool
         test e = member_by p n group at s.bits e
 
-        here : (e : ℕ) → e < 64 → has_bit (get_or (set sets region (bit_or (get_or sets region 0) found)) region 0) e ≡ (has_bit taken e && has_bit (after e) region)
+        here : (e : ℕ) → e < 64
+            → has_bit (get_or (set sets region (bit_or (get_or sets region 0) found)) region 0) e ≡ (has_bit taken e && has_bit (after e) region)
         here e h =
             ap (λ (x : ℕ). has_bit x e) (get_or-set_same sets region (bit_or (get_or sets region 0) found) 0 (let l = s.long in omega arith))
             ∙ has_or (get_or sets region 0) found e

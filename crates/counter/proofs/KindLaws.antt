@@ -173,7 +173,8 @@ shaped K.Unknown h n k set body few e good = tt
 pub position_tells : (kind : Kind) (h : Head) (event : List ℤ) (bits : ℕ) (body : List ℤ)
     → (not_outside (position_in (step_of kind h body) event bits body) ≡ shape_in kind event bits body)
     × (is_on_outline (position_in (step_of kind h body) event bits body) ≡ shape_on kind event body)
-unfolding plane_of oval_of space_of solid_of polygon_in ellipse_in decimal_ellipse_in ellipsoid_in polygon_on ellipse_on decimal_ellipse_on ellipsoid_on value_in
+unfolding plane_of oval_of space_of solid_of polygon_in ellipse_in decimal_ellipse_in ellipsoid_in polygon_on
+    ellipse_on decimal_ellipse_on ellipsoid_on value_in
 position_tells K.Box h event bits body = without-outline_tells (box_in event body)
 position_tells K.Polygon h event bits body = (polygon_in_lem _ _ _, refl)
 position_tells K.Ellipse h event bits body = (ellipse_in_lem _ _ _ _ _ _ _ _, refl)

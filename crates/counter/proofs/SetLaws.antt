@@ -138,7 +138,8 @@ unfolding count_trailing_zeros
 first-is zero set some low = absurd (omega arith)
 first-is (suc k) set some low = go (set % 2) refl (λ more. first-is k (set / 2) more (let p = pow-suc 2 k in let x = 2 ^ k in omega arith))
   where
-    go : (d : ℕ) → set % 2 ≡ d → (0 < set / 2 → First k (set / 2) (count_trailing_zeros k (set / 2))) → First (suc k) set (under d (count_trailing_zeros k (set / 2)))
+    go : (d : ℕ) → set % 2 ≡ d → (0 < set / 2 → First k (set / 2) (count_trailing_zeros k (set / 2)))
+        → First (suc k) set (under d (count_trailing_zeros k (set / 2)))
     go zero e half = first-even k set some e (half (omega arith))
     go (suc d) e half = first-odd k set (omega arith)
 

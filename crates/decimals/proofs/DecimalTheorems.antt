@@ -400,12 +400,14 @@ pub good-decimals :
     (λ s. is_decimal (bytes s))
     ("-0.5" ∷ "0.0" ∷ "0.000" ∷ "1134.5" ∷ "1.500" ∷ "4.0" ∷ "-0.001" ∷ "-10.25" ∷ "1234567890123456789012345678901234567890.125" ∷ "0" ∷ "-65536" ∷ [])
     ≡ true
-unfolding is_decimal has_point before_point after_point unsigned_thousandths is_whole is_one_to_three is_minus_zero is_number is_positive is_negative unsigned same
+unfolding is_decimal has_point before_point after_point unsigned_thousandths is_whole is_one_to_three is_minus_zero
+    is_number is_positive is_negative unsigned same
 good-decimals = refl
 
 -- minus zero
 pub minus-zeros : every (λ s. not (is_decimal (bytes s))) ("-0" ∷ "-0.0" ∷ "-0.00" ∷ "-0.000" ∷ []) ≡ true
-unfolding is_decimal has_point before_point after_point unsigned_thousandths is_whole is_one_to_three is_minus_zero is_number is_positive is_negative unsigned same
+unfolding is_decimal has_point before_point after_point unsigned_thousandths is_whole is_one_to_three is_minus_zero
+    is_number is_positive is_negative unsigned same
 minus-zeros = refl
 
 pub bad-decimals :
@@ -414,7 +416,8 @@ pub bad-decimals :
     ("" ∷ "." ∷ "-" ∷ "-." ∷ ".5" ∷ "-.5" ∷ "5." ∷ "1.2345" ∷ "00.5" ∷ "-00.5" ∷ "+0.5" ∷ "1e3" ∷ "1.5e1" ∷ "1.5.2" ∷ "1.-5" ∷ "--1.5" ∷ "1,5" ∷ "1. 5"
     ∷ "0123456789012345678901234567890123456789.5" ∷ "1234567890123456789012345678901234567890.1234" ∷ [])
     ≡ true
-unfolding is_decimal has_point before_point after_point unsigned_thousandths is_whole is_one_to_three is_minus_zero is_number is_positive is_negative unsigned same
+unfolding is_decimal has_point before_point after_point unsigned_thousandths is_whole is_one_to_three is_minus_zero
+    is_number is_positive is_negative unsigned same
 bad-decimals = refl
 
 -- their values in thousandths

@@ -128,7 +128,8 @@ module _ (headed : Bool) (n : ℕ) (s : List ℕ) where
     events_open e = let r = ragged_open false headed n s h e in events-bad (omega (arith, r)) ∙ rw r
 
     module _ (e : events_ended s ≡ true) where
-      pub events-ragged : 0 < bad_line false headed n (event_part s) → events_of headed n s ≡ ragged (table_lines s + 1 + bad_line false headed n (event_part s))
+      pub events-ragged : 0 < bad_line false headed n (event_part s)
+          → events_of headed n s ≡ ragged (table_lines s + 1 + bad_line false headed n (event_part s))
       events-ragged l = let r = ragged-behind false headed n s h e l in events-bad (omega (arith, r)) ∙ rw r
 
       pub events-listed : bad_line false headed n (event_part s) ≤ 0 → events_of headed n s ≡ list (values (list_part headed (event_part s)))

@@ -140,7 +140,8 @@ module _ (n : ℕ) where
   lines-values [] e = sym (zero-mul n)
   lines-values (l ∷ ls) e =
       simp (length-append, suc-mul)
-      (omega (arith, event-values n l (and_left (is_event n l) (every (is_event n) ls) e), lines-values ls (and_right (is_event n l) (every (is_event n) ls) e)))
+      (omega
+      (arith, event-values n l (and_left (is_event n l) (every (is_event n) ls) e), lines-values ls (and_right (is_event n l) (every (is_event n) ls) e)))
 
   pub lines-bytes : (ls : List (List ℕ)) → every (is_event n) ls ≡ true → 2 * length (flat_map line_values ls) ≤ length (unlines ls)
   unfolding flat_map

@@ -87,7 +87,8 @@ unfolding table_part table_end has_events table_lines lines same
 example_tables = refl
 
 pub example-events : map (λ e. events_of e.headed e.n (bytes e.input)) examples ≡ map (λ e. e.events) examples
-unfolding events_of has_events events_ended event_part table_end table_lines ragged_line bad_line good_lines is_event values list_part line_values flat_map lines fields
+unfolding events_of has_events events_ended event_part table_end table_lines ragged_line bad_line good_lines
+    is_event values list_part line_values flat_map lines fields
     ends_in_lf same is_number is_positive is_negative unsigned number_value
 example-events = refl
 

@@ -52,8 +52,10 @@ pub decimals-earn :
     && (earn 7 ("0.0 0 1.5 0 1 1" ∷ "0.0 0 1 0 1 1" ∷ "0 0 1 -0.0 1 1" ∷ "0 0 1.5000 0 1 1" ∷ "0 0 1. 0 1 1" ∷ [])
     && earn 5 ("0 0 1.5 0 1" ∷ [])))))
     ≡ true
-unfolding all any matrix_good in_range same fields is_name is_negative unsigned is_positive is_number number_value clamp_to clamp has_point before_point after_point
-    unsigned_thousandths thousandths is_whole is_one_to_three is_minus_zero is_decimal carries_point kind_named is_none is_parent dimension_of value_of thousandths_of
+unfolding all any matrix_good in_range same fields is_name is_negative unsigned is_positive is_number number_value
+    clamp_to clamp has_point before_point after_point
+    unsigned_thousandths thousandths is_whole is_one_to_three is_minus_zero is_decimal carries_point kind_named
+    is_none is_parent dimension_of value_of thousandths_of
     ellip_rule rule_of number_refusal decimal_refusal repeated dimension_passes field_refusal fields_refusal kind_refusal line_refusal
 decimals-earn = refl
 

@@ -45,8 +45,10 @@ pub ellipsoids_earn :
     && (earn 9 ("A B A 0 0 0 7 2 1 5 -1 3 7" ∷ "A B D 0 0 0 7 2 1 5 -1 3 7" ∷ [])
     && earn 11 ("A B C 0 0 0 -1 0 0 -1 0 1 1" ∷ "A B C 0 0 0 1 0 0 -1 0 -1 1" ∷ "A B C 0 0 0 1 0 0 1 0 -1 1" ∷ "A B C 0 0 0 1 1 1 2 1 1 1" ∷ []))))))
     ≡ true
-unfolding all any matrix_good matrix3_good in_range same fields is_name is_negative unsigned is_positive is_number number_value clamp_to clamp has_point carries_point
-    kind_named is_none is_parent dimension_of value_of ellip3_rule rule_of number_refusal repeated dimension_passes field_refusal fields_refusal kind_refusal line_refusal
+unfolding all any matrix_good matrix3_good in_range same fields is_name is_negative unsigned is_positive is_number
+    number_value clamp_to clamp has_point carries_point
+    kind_named is_none is_parent dimension_of value_of ellip3_rule rule_of number_refusal repeated dimension_passes
+    field_refusal fields_refusal kind_refusal line_refusal
 ellipsoids_earn = refl
 
 pub ellipsoid-kind : kind_number (step_kind (line_kind (ellipsoid (bytes "A B C 0 0.5 0 7.0 2 1 5 -1 3 7")))) ≡ 8

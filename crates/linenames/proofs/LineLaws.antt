@@ -114,16 +114,19 @@ module _ (head fs : List (List ℕ)) where
           let y : field_at fs 1 ≡ x = q ∙ get_or-tab (quadrant_name fs) [] (quad_count fs) k b in
           let z : same x (field_at fs 1) ≡ false =
           not-true (same x (field_at fs 1))
-          (and_left (not (same x (field_at fs 1))) (eqb (first_bad (other_quadrant fs x) 0 (quad_count fs)) k) (all-at (new_quadrant fs) (quad_count fs) e k b)) in
+          (and_left (not (same x (field_at fs 1))) (eqb (first_bad (other_quadrant fs x) 0 (quad_count fs)) k)
+          (all-at (new_quadrant fs) (quad_count fs) e k b)) in
           true≢false (sym (rw y (same_refl x)) ∙ z)
       apart (suc j) (suc k) h l q =
           let b : k < quad_count fs = omega (arith, long) in
           let a : j < quad_count fs = omega (arith, b) in
           let x = quadrant_name fs k in
-          let y : quadrant_name fs j ≡ x = sym (get_or-tab (quadrant_name fs) [] (quad_count fs) j a) ∙ q ∙ get_or-tab (quadrant_name fs) [] (quad_count fs) k b in
+          let y : quadrant_name fs j ≡ x = sym (get_or-tab (quadrant_name fs) [] (quad_count fs) j a) ∙ q
+          ∙ get_or-tab (quadrant_name fs) [] (quad_count fs) k b in
           let f : first_bad (other_quadrant fs x) 0 (quad_count fs) ≡ k =
           eqb-true (first_bad (other_quadrant fs x) 0 (quad_count fs)) k
-          (and_right (not (same x (field_at fs 1))) (eqb (first_bad (other_quadrant fs x) 0 (quad_count fs)) k) (all-at (new_quadrant fs) (quad_count fs) e k b)) in
+          (and_right (not (same x (field_at fs 1))) (eqb (first_bad (other_quadrant fs x) 0 (quad_count fs)) k)
+          (all-at (new_quadrant fs) (quad_count fs) e k b)) in
           let z : same x (quadrant_name fs j) ≡ false = not-true (same x (quadrant_name fs j))
           (first-before (other_quadrant fs x) 0 (quad_count fs) j (omega arith) (omega (arith, f))) in
           true≢false (sym (rw y (same_refl x)) ∙ z)

@@ -165,7 +165,8 @@ module _ (f : Float) (less : KnowsLess f) where
         go (suc left) = rw (lt-ltb i (2 + 4 + length_at p 2) (omega arith), ne_eqb i 2 (λ e. omega arith))
 
     steps_are : (i : ℕ) → 2 ≤ i
-        → steps_word_for f (step_count p) p (width p) (step_count p) 0 2 i ≡ (steps_word (step_count p) p (width p) (step_count p) 0 2 i && not (new_word f p i))
+        → steps_word_for f (step_count p) p (width p) (step_count p) 0 2 i
+        ≡ (steps_word (step_count p) p (width p) (step_count p) 0 2 i && not (new_word f p i))
     unfolding new_word
     steps_are i h = steps_for p (width p) (step_count p) (step_count p) 0 2 i h
 

@@ -59,7 +59,8 @@ unfolding from_vertex backwards redrawn side between on_edge turn crossing edges
 positions = (refl, refl, refl)
 
 -- ---- half a vertex over: there the laws fail, so they ask for whole ones
-whole_needed : (on_outline (pos 0 ∷ pos 0 ∷ pos 5 ∷ []) (pos 0) (pos 3) ≡ true) × (on_outline (from_vertex 1 (pos 0 ∷ pos 0 ∷ pos 5 ∷ [])) (pos 0) (pos 3) ≡ false)
+whole_needed : (on_outline (pos 0 ∷ pos 0 ∷ pos 5 ∷ []) (pos 0) (pos 3) ≡ true)
+    × (on_outline (from_vertex 1 (pos 0 ∷ pos 0 ∷ pos 5 ∷ [])) (pos 0) (pos 3) ≡ false)
 unfolding from_vertex side between on_edge edges_from edges on_some
 whole_needed = (refl, refl)
 

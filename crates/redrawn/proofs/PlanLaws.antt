@@ -76,8 +76,10 @@ module _ {p q : List ℤ} (r : PlanRedrawn p q) where
       ∙ rw (r.size, width_same, count_same) (go (ltb 4096 (length p)) (spans 1 8 (width p)) (spans 0 64 (step_count p)) refl (sym (check_reads p) ∙ e))
     where
       go : (l a b : Bool) → spans 0 64 (step_count p) ≡ b
-          → cond l (refused 21 0) (cond (not a) (refused 22 0) (cond (not b) (refused 22 1) (steps_form (step_count p) p (width p) (step_count p) 0 2))) ≡ passed
-          → cond l (refused 21 0) (cond (not a) (refused 22 0) (cond (not b) (refused 22 1) (steps_form (step_count p) q (width p) (step_count p) 0 2))) ≡ passed
+          → cond l (refused 21 0) (cond (not a) (refused 22 0) (cond (not b) (refused 22 1) (steps_form (step_count p) p (width p) (step_count p) 0 2)))
+          ≡ passed
+          → cond l (refused 21 0) (cond (not a) (refused 22 0) (cond (not b) (refused 22 1) (steps_form (step_count p) q (width p) (step_count p) 0 2)))
+          ≡ passed
       go true a b eb f = f
       go false false b eb f = f
       go false true false eb f = f

@@ -58,7 +58,8 @@ kind-any d e x h = go (same x (bytes "rect")) (same x (bytes "poly")) (same x (b
     go false false false rest h = h
 
 pub kind-redrawn : (k : ℕ) (back : Bool) (fs : List (List ℕ)) → line_kind fs ≡ Poly → line_kind (redrawn_fields k back fs) ≡ Poly
-kind-redrawn k back fs h = rw (field_before k back fs 0 (omega arith)) (kind-any (carries_point fs) (carries_point (redrawn_fields k back fs)) (field_at fs 0) h)
+kind-redrawn k back fs h = rw (field_before k back fs 0 (omega arith))
+    (kind-any (carries_point fs) (carries_point (redrawn_fields k back fs)) (field_at fs 0) h)
 
 -- ---- the refusals
 

@@ -85,7 +85,8 @@ module _ (slice : ℕ) (text : List ℕ) (e : table_verdict slice text ≡ passe
             (same-counted lent_slice (compile_of text lent_slice) (compile_of again lent_slice) (count_of (plan_of text) values) words_same regions-same)
         go (inr wrong) =
             let same_head = dimensions-redrawn text a.ends ks r in
-            rw (columns-refused text columns lent_slice values f wrong, columns-refused again columns lent_slice values g (right-same columns ∙ wrong), same_head)
+            rw
+            (columns-refused text columns lent_slice values f wrong, columns-refused again columns lent_slice values g (right-same columns ∙ wrong), same_head)
             (record { verdict = refl; words = refl; regions = refl; tally = refl })
 
   pub lines-redrawn : SameByTable text again
@@ -103,7 +104,8 @@ module _ (slice : ℕ) (text : List ℕ) (e : table_verdict slice text ≡ passe
 
 -- ---- a table that is refused is refused alike, with nothing written
 pub refused-redrawn : (text columns : List ℕ) (slice values : List ℤ) → ends_in_lf text ≡ true → (ks : List (List ℕ)) → LinesRedrawn (gate_lines text) ks
-    → eqb (table_verdict (length slice) text).number 0 ≡ false → count_table_of (reordered text ks) columns slice values ≡ count_table_of text columns slice values
+    → eqb (table_verdict (length slice) text).number 0 ≡ false
+    → count_table_of (reordered text ks) columns slice values ≡ count_table_of text columns slice values
 refused-redrawn text columns slice values ends ks r e =
     let v = verdict-redrawn text ends ks r (length slice) in
     table-refused (reordered text ks) columns slice values (rw v e) ∙ rw v (sym (table-refused text columns slice values e))
@@ -121,12 +123,14 @@ one-drawn k back (l ∷ ls) zero h e = more (drawn k back e) (all-kept ls)
 one-drawn k back (l ∷ ls) (suc i) h e = more kept (one-drawn k back ls i (omega arith) e)
 
 -- the vertices of one `poly` line, from any vertex on and in either direction
-module _ (text : List ℕ) (i : ℕ) (h : i < length (gate_lines text)) (poly : line_kind (fields (get_or (gate_lines text) i [])) ≡ Poly) (k : ℕ) (back : Bool) where
+module _ (text : List ℕ) (i : ℕ) (h : i < length (gate_lines text)) (poly : line_kind (fields (get_or (gate_lines text) i [])) ≡ Poly)
+    (k : ℕ) (back : Bool) where
   line-drawn : LinesRedrawn (gate_lines text) (set (gate_lines text) i (redrawn_line k back (get_or (gate_lines text) i [])))
   line-drawn = one-drawn k back (gate_lines text) i h poly
 
   -- that line of the table is the line redrawn, and every other one stays; `fields-line` says which fields it has
-  pub line-there : ends_in_lf text ≡ true → gate_lines (redrawn_table k back text i) ≡ set (gate_lines text) i (redrawn_line k back (get_or (gate_lines text) i []))
+  pub line-there : ends_in_lf text ≡ true
+      → gate_lines (redrawn_table k back text i) ≡ set (gate_lines text) i (redrawn_line k back (get_or (gate_lines text) i []))
   unfolding redrawn_table
   line-there ends = gate_lines_lem text ends _ line-drawn
 

@@ -157,4 +157,5 @@ module _ (text : List ℕ) (ends : ends_in_lf text ≡ true) (ks : List (List �
   pub verdict-redrawn : (slice : ℕ) → table_verdict slice again ≡ table_verdict slice text
   unfolding table_verdict
   verdict-redrawn slice =
-      rw (same_length text ends ks clean (sizes-same r), same_good text ends ks clean, dimensions-redrawn, gate_lines_lem, ends-again, ends, lines-verdict slice)
+      rw
+      (same_length text ends ks clean (sizes-same r), same_good text ends ks clean, dimensions-redrawn, gate_lines_lem, ends-again, ends, lines-verdict slice)

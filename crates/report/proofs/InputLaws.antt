@@ -81,7 +81,8 @@ module _ (input : List ℕ) where
   column-verdict accepted = go (passed_or_failed (has_events input && events_ended input))
     where
       go : ((has_events input && events_ended input) ≡ true) ⊎ ((has_events input && events_ended input) ≡ false)
-          → columns_verdict (table_part input) (cond (has_events input && events_ended input) (line_from (event_part input) 0) (right_line (table_part input)) ∷ [])
+          → columns_verdict (table_part input)
+          (cond (has_events input && events_ended input) (line_from (event_part input) 0) (right_line (table_part input)) ∷ [])
           ≡ columns_verdict (table_part input) (column_lines false input)
       go (inl e) = rw (e, columns-one input e)
       go (inr e) =

@@ -21,15 +21,18 @@ use Rattle.resolve.proofs.ReadLaws.{count-more, count_fits, region-named}
 
 module _ (text starts : List ℕ) (n : ℕ) (x : Name) (i : ℕ) (h : i < n) (base : ℕ) (b : base ≡ length (regions_at text starts i)) where
   -- region base + q is region q of gate i
-  other-same : (q : ℕ) → q < region_count (fields_at text starts i) → other_name (regions_at text starts n) x (base + q) ≡ other_region (fields_at text starts i) x q
+  other-same : (q : ℕ) → q < region_count (fields_at text starts i)
+      → other_name (regions_at text starts n) x (base + q) ≡ other_region (fields_at text starts i) x q
   unfolding other_name other_region
   other-same q l = rw b (ap (λ (y : Name). not (same x y)) (region-named text starts n i h q l))
 
-  module _ (e : number_of (regions_at text starts n) x ≡ first_bad (other_name (regions_at text starts n) x) base (length (regions_at text starts n) - base)) {q : ℕ}
+  module _ (e : number_of (regions_at text starts n) x ≡ first_bad (other_name (regions_at text starts n) x) base (length (regions_at text starts n) - base))
+      {q : ℕ}
       (f : q ≡ region_named (fields_at text starts i) x) where
     earlier : (j : ℕ) → j < q → j < region_count (fields_at text starts i) → other_name (regions_at text starts n) x (base + j) ≡ true
     unfolding region_named
-    earlier j l k = other-same j k ∙ first-before (other_region (fields_at text starts i) x) 0 (region_count (fields_at text starts i)) j (omega arith) (rw f at l)
+    earlier j l k = other-same j k
+        ∙ first-before (other_region (fields_at text starts i) x) 0 (region_count (fields_at text starts i)) j (omega arith) (rw f at l)
 
     pub number-found : q < region_count (fields_at text starts i) → base + q ≡ number_of (regions_at text starts n) x
     unfolding region_named

@@ -58,7 +58,8 @@ module _ (text starts : List ℕ) where
       ap regions (gates-more i) ∙ regions_append (gates_at text starts i) (gate_at i ∷ [])
       ∙ ap (λ (l : List Region). regions (gates_at text starts i) ++ l) (append-nil (gate_regions (gate_at i)))
 
-  pub count-more : (i : ℕ) → length (regions (gates_at text starts (suc i))) ≡ length (regions (gates_at text starts i)) + region_count (fields_at text starts i)
+  pub count-more : (i : ℕ)
+      → length (regions (gates_at text starts (suc i))) ≡ length (regions (gates_at text starts i)) + region_count (fields_at text starts i)
   count-more i =
       ap length (regions-more i) ∙ length-append (regions (gates_at text starts i)) (gate_regions (gate_at i))
       ∙ ap (λ (k : ℕ). length (regions (gates_at text starts i)) + k) (region-count (dimensions text) (fields_at text starts i))

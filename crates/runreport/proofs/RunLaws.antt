@@ -86,7 +86,8 @@ module _ (p : List ℤ) where
     pub plan-passed : c ≡ Passed → check_of p ≡ passed
     plan-passed q = sym e ∙ rw q
 
-    pub plan-refused : (r : Refusal) {n k : ℕ} → c ≡ Refused r → n ≡ (refusal r).number → k ≡ (refusal r).place → (es : Events) → ran_text p es ≡ refused_line n k
+    pub plan-refused : (r : Refusal) {n k : ℕ} → c ≡ Refused r → n ≡ (refusal r).number → k ≡ (refusal r).place
+        → (es : Events) → ran_text p es ≡ refused_line n k
     unfolding ran_text
     plan-refused r q f g es = rw (← e) (refused-text c r q f g (events_text p es))
 

@@ -58,7 +58,8 @@ pub numbers-length : (p : List ℤ) (lists : List (List (List ℕ))) → length 
 unfolding tallies_of flat_map
 numbers-length p [] = refl
 numbers-length p (ls ∷ lists) =
-    simp length-append (omega (arith, numbers-long (count_of p (flat_map line_values ls)).tally (count_long p (flat_map line_values ls)), numbers-length p lists))
+    simp length-append
+    (omega (arith, numbers-long (count_of p (flat_map line_values ls)).tally (count_long p (flat_map line_values ls)), numbers-length p lists))
 
 tallies-count : (p : List ℤ) (number : Tally → ℕ) (lists : List (List (List ℕ))) → length (map number (tallies_of p lists)) ≡ length lists
 unfolding tallies_of

@@ -63,7 +63,8 @@ module _ (n : ℕ) (part : List ℕ) (short : length part ≤ 65535) (good : eve
 
 -- ---- the tallies of lists
 
-listed-values : (p : List ℤ) (rest : List ℕ) → (count_of p (values (table_part rest))).tally ≡ (count_of p (flat_map line_values (lines (table_part rest)))).tally
+listed-values : (p : List ℤ) (rest : List ℕ)
+    → (count_of p (values (table_part rest))).tally ≡ (count_of p (flat_map line_values (lines (table_part rest)))).tally
 unfolding values
 listed-values p rest = refl
 

@@ -151,7 +151,8 @@ module _ (input : List ℕ) (short : length input ≤ 65536) (a : Accepted 4096 
       simp length-append (omega (arith, a.rules.few, decimal-length (event_total (length (dimensions table)) (value_lists input))))
 
 printed-fits : (input : List ℕ) → length input ≤ 65536
-    → length (sheet_printed (table_part input) (column_lines true input) (ragged_line true true (length (dimensions (table_part input))) input) (value_lists input))
+    → length
+    (sheet_printed (table_part input) (column_lines true input) (ragged_line true true (length (dimensions (table_part input))) input) (value_lists input))
     ≤ 1300000
 unfolding sheet_printed
 printed-fits input short =

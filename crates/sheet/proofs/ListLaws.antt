@@ -129,7 +129,8 @@ read_alike : (headed last : Bool) (ls : List (List ℕ)) → length (parted_from
     → read_lines true headed (ls ++ behind_last last) ≡ read_lines false headed (ls ++ behind_last last)
 read_alike headed last [] h = last-alike headed last
 read_alike true last (l ∷ ls) h = ap (λ (rs : List Line). columns l ∷ rs) (read_alike false last ls h)
-read_alike false last (l ∷ ls) h = go (is_opening l) h (parted-some (read_lines true true ls)) (parted-some (read_lines true false ls)) (read_alike false last ls)
+read_alike false last (l ∷ ls) h = go (is_opening l) h (parted-some (read_lines true true ls))
+    (parted-some (read_lines true false ls)) (read_alike false last ls)
   where
     go : (b : Bool) → length (parted_lines (cond b (opening ∷ read_lines true true ls) (event l ∷ read_lines true false ls))) ≡ 1
         → 1 ≤ length (parted_from true ls) → 1 ≤ length (parted_from false ls)

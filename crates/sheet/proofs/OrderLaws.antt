@@ -121,7 +121,8 @@ pub record NumbersBy (text again : List ℕ) (lists : List (List ℤ)) : Type 0 
   pub unclaimed_listed : with_sum (λ t. t.unclaimed) (list_tallies again lists) ≡ all_listed (unclaimed_in text) lists
   pub spoilt_listed : with_sum (λ t. t.spoilt) (list_tallies again lists) ≡ all_listed (spoilt_in text) lists
 
-pub numbers_by_lem : (text : List ℕ) → table_verdict 4096 text ≡ passed → (ks : List (List ℕ)) → LineOrder text ks → (again : List ℕ) → again ≡ reordered text ks
+pub numbers_by_lem : (text : List ℕ) → table_verdict 4096 text ≡ passed → (ks : List (List ℕ)) → LineOrder text ks
+    → (again : List ℕ) → again ≡ reordered text ks
     → (lists : List (List ℤ)) → Complete (length (dimensions text)) lists → NumbersBy text again lists
 numbers_by_lem text accepted ks order again e lists complete =
     let slice : List ℤ = replicate 4096 (pos 0) in

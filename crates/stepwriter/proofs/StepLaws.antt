@@ -62,7 +62,8 @@ module _ (text starts : List ℕ) (n gate quadrant region : ℕ) {line : List �
 
 -- ---- of a settled table
 
-module _ (text starts : List ℕ) (n gate quadrant region : ℕ) (s : Settled text starts n) (h : gate < n) (l : quadrant < region_count (fields_at text starts gate))
+module _ (text starts : List ℕ) (n gate quadrant region : ℕ) (s : Settled text starts n) (h : gate < n)
+    (l : quadrant < region_count (fields_at text starts gate))
     (e : region ≡ length (regions_at text starts gate) + quadrant) where
   below : region < length (regions_at text starts n)
   below = omega (arith, count_fits text starts n gate h)
@@ -79,7 +80,8 @@ module _ (text starts : List ℕ) (n gate quadrant region : ℕ) (s : Settled te
             (living-here text starts n gate h (s.alive gate h) 2 (omega arith) (end_past (dimensions text) (fields_at text starts gate)) (ap not f)),
       )
 
-  pub step_is : line_step (dimensions text) (regions_at text starts n) (fields_at text starts gate) quadrant region ≡ step_words (regions_at text starts n) region
+  pub step_is : line_step (dimensions text) (regions_at text starts n) (fields_at text starts gate) quadrant region
+      ≡ step_words (regions_at text starts n) region
   step_is =
       line_step_lem (regions_at text starts n) s.few region below (dimensions text) (fields_at text starts gate) s.narrow (s.good gate h) quadrant l
       (rw e (region-read text starts n gate h quadrant l)) parent-below

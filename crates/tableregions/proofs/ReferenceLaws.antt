@@ -48,7 +48,8 @@ unfolding region_shape gate_of
 region-references text starts n i h q l =
     let fs = fields_at text starts i in
     ap references (region-read text starts n i h q l)
-    ∙ ap (λ (x : List Name). parent_names (parent_of (field_at fs 2)) ++ x) (same_references (dimensions text) fs q (body_of (dimensions text) (line_kind fs) fs))
+    ∙ ap (λ (x : List Name). parent_names (parent_of (field_at fs 2)) ++ x)
+    (same_references (dimensions text) fs q (body_of (dimensions text) (line_kind fs) fs))
 
 -- the references of a region are those of the gate that it stands at
 pub located_references : (text starts : List ℕ) (n r : ℕ) {x : Located} → x ≡ located_at text starts n r → x.gate < n

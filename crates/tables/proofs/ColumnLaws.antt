@@ -63,7 +63,8 @@ differing_at (x ∷ a) [] h k = absurd (omega arith)
 differing_at (x ∷ a) (y ∷ b) h k = go (passed_or_failed (same x y)) (differing_at a b)
   where
     go : (same x y ≡ true) ⊎ (same x y ≡ false)
-        → (first_differing a b < length a → first_differing a b < length b → same (get_or a (first_differing a b) []) (get_or b (first_differing a b) []) ≡ false)
+        →
+        (first_differing a b < length a → first_differing a b < length b → same (get_or a (first_differing a b) []) (get_or b (first_differing a b) []) ≡ false)
         → same (get_or (x ∷ a) (first_differing (x ∷ a) (y ∷ b)) []) (get_or (y ∷ b) (first_differing (x ∷ a) (y ∷ b)) []) ≡ false
     go (inl e) r =
         let l : suc (first_differing a b) < suc (length a) = rw e at h in

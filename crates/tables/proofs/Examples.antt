@@ -203,7 +203,8 @@ table_cases_lem : Hold table_cases × Hold table_outline_cases × Hold table_dec
 unfolding table_cases table_outline_cases table_decimal_cases table_ellipsoid_cases ellipsoid_example ellipsoid_answer in_tilted on_tilted
     Columns.is_right table_unclaimed_cases in_no_gate head_alone head_answer Judging.unclaimed Counting.unclaimed_at Members.claimed Members.unclaimed
     same_words example_columns answer in_gate on_gate example example_events decimal_example decimal_answer in_turned on_turned
-    Decimals.before_point Decimals.after_point Decimals.unsigned_thousandths Decimals.thousandths Decimals.is_whole Decimals.is_one_to_three Decimals.is_minus_zero
+    Decimals.before_point Decimals.after_point Decimals.unsigned_thousandths Decimals.thousandths Decimals.is_whole
+    Decimals.is_one_to_three Decimals.is_minus_zero
     Decimals.is_decimal Kinds.thousandths_of Rules.decimal_refusal Encoding.decimal_word Meaning.in_decimal_ellip LineOutlines.on_decimal_ellip
     DecimalEllipse.in_decimal_ellipse DecimalEllipse.decimal_ellipse_position Placing.decimal_ellipse_in
     Meaning.in_ellip3 LineOutlines.on_ellip3 Rules.ellip3_rule Ellipsoid.in_ellipsoid Ellipsoid.ellipsoid_position Placing.ellipsoid_in
@@ -221,13 +222,17 @@ unfolding table_cases table_outline_cases table_decimal_cases table_ellipsoid_ca
     Rules.field_refusal Rules.fields_refusal Tiling.interval Tiling.holds_interval Tiling.is_combination Tiling.holds_combination Tiling.held_once Tiling.tiles
     Compile.plan_of Compile.compile_of Head.head_fields Head.dimensions Head.is_dims Head.head_good Head.gate_lines Head.line_gate Head.gates Members.member
     Reaching.is_in Reaching.refers_to Reaching.refers_at Reaching.reaches_by Reaching.reaches_itself Refusals.unless_line Refusals.refusal_at Refusals.line_good
-    Refusals.uncrowded Refusals.unrepeated Refusals.is_region Refusals.living Refusals.uncircled Refusals.size_verdict Refusals.gates_verdict Refusals.table_verdict
+    Refusals.uncrowded Refusals.unrepeated Refusals.is_region Refusals.living Refusals.uncircled Refusals.size_verdict
+    Refusals.gates_verdict Refusals.table_verdict
     Steps.is_written Steps.ready Steps.waiting Steps.next_region Steps.order_from Steps.order Steps.step_words Steps.plan_words Table.nth_gate Table.nth_region
     Table.apart Table.new_name Table.different Table.other_name Table.number_of Table.up_to Words.number Words.part Form.kind_of Form.earlier Form.free
-    Form.parent_good Form.differs Form.dimension_good Form.box_word Form.polygon_word Form.entry Form.matrix_word Form.ellipse_word Form.operand_word Form.kind_at
-    Form.region_at Form.length_at Form.body_at Form.next_at Form.head_word_for Form.steps_word_for Form.steps_end Form.width Form.step_count Form.word_good_for Form.plan_end
+    Form.parent_good Form.differs Form.dimension_good Form.box_word Form.polygon_word Form.entry Form.matrix_word
+    Form.ellipse_word Form.operand_word Form.kind_at
+    Form.region_at Form.length_at Form.body_at Form.next_at Form.head_word_for Form.steps_word_for Form.steps_end
+    Form.width Form.step_count Form.word_good_for Form.plan_end
     Form.lowest_bad_for Form.form_for Form.check_for Placing.value_in Placing.triple_in Placing.box_in Placing.polygon_in Placing.ellipse_in Placing.operand_in
-    Placing.parent_in Placing.step_in Placing.settled Placing.bits_of Judging.first_spoilt Judging.members Counting.event_at Counting.taken_at Counting.spoilt_at
+    Placing.parent_in Placing.step_in Placing.settled Placing.bits_of Judging.first_spoilt Judging.members
+    Counting.event_at Counting.taken_at Counting.spoilt_at
     Counting.member_at Counting.list_from Counting.in_region Counting.tally_of Counting.count_passed Counting.count_for TableCount.count_table_of
     Meaning.in_triple Meaning.in_rect Meaning.in_quadrant Positions.ellipse_position LineOutlines.on_ellip TableOutlines.outline_member
 table_cases_lem = (

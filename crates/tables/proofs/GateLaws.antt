@@ -33,7 +33,8 @@ pub gate_of-region : (t : List Gate) (r : Region) → r ∈ regions t → (g : G
 gate_of-region [] r m = absurd (Memᴰ.not-nil m)
 gate_of-region (g ∷ t) r m = go (Memᴰ.append_cases (gate_regions g) m) (λ k. gate_of-region t r k)
   where
-    go : (r ∈ gate_regions g) ⊎ (r ∈ regions t) → (r ∈ regions t → (h : Gate) × (h ∈ t) × (r ∈ gate_regions h)) → (h : Gate) × (h ∈ (g ∷ t)) × (r ∈ gate_regions h)
+    go : (r ∈ gate_regions g) ⊎ (r ∈ regions t) → (r ∈ regions t → (h : Gate) × (h ∈ t) × (r ∈ gate_regions h))
+        → (h : Gate) × (h ∈ (g ∷ t)) × (r ∈ gate_regions h)
     go (inl k) ih = (g, here refl, k)
     go (inr k) ih = let a = ih k in (a.0, there a.1, a.2)
 

@@ -186,7 +186,8 @@ module _ (rs : List Region) where
             let o : left (λ j. 1) w i ≡ 1 = rw e in
             absurd (omega arith)
 
-    next-enough : (k w : ℕ) → Enough (suc k) w → next_region rs w < length rs → (has_bit w (next_region rs w) ≡ false) × Enough k (with_bit w (next_region rs w))
+    next-enough : (k w : ℕ) → Enough (suc k) w → next_region rs w < length rs
+        → (has_bit w (next_region rs w) ≡ false) × Enough k (with_bit w (next_region rs w))
     unfolding ready
     next-enough k w h l =
         let r = next_region rs w in

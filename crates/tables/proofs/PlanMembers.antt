@@ -107,7 +107,8 @@ module _ (test : ℕ → Bool) (k w bits : ℕ) (sets : Right test k w bits) (r 
   right-next : Right test k (with_bit w r) (cond (test r) (with_bit bits r) bits)
   right-next = record { right = λ s l b. right' s l b (passed_or_failed (eqb s r)); unset = λ s b. unset' s b (passed_or_failed (eqb s r)) }
     where
-      right' : (s : ℕ) → s < k → has_bit (with_bit w r) s ≡ true → (eqb s r ≡ true) ⊎ (eqb s r ≡ false) → has_bit (cond (test r) (with_bit bits r) bits) s ≡ test s
+      right' : (s : ℕ) → s < k → has_bit (with_bit w r) s ≡ true → (eqb s r ≡ true) ⊎ (eqb s r ≡ false)
+          → has_bit (cond (test r) (with_bit bits r) bits) s ≡ test s
       right' s l b (inl t) = let q = eqb-true s r t in rw q (own-bit (test r))
       right' s l b (inr t) = other-bit (test r) s (eqb-false s r t) ∙ sets.right s l (sym (has_with_other w r small s (eqb-false s r t)) ∙ b)
 
@@ -138,7 +139,8 @@ module _ (rs : List Region) (ok : Orderly rs) (n : ℕ) (good : (r : Region) →
         ∙ any_some no_operand (operand_in bits (map (reference_word rs) os)) (in_operand m) os (operand_right os h)
     shape-right (not_of o) g h = ap not (operand_right (o ∷ []) h 0 (omega arith))
 
-    parent-right : (p : Option Name) → ((k : Name) → k ∈ parent_names p → has_bit bits (number_of rs k) ≡ m k) → parent_in bits (parent_word rs p) ≡ in_parent m p
+    parent-right : (p : Option Name) → ((k : Name) → k ∈ parent_names p → has_bit bits (number_of rs k) ≡ m k)
+        → parent_in bits (parent_word rs p) ≡ in_parent m p
     unfolding parent_in in_range number
     parent-right none h = refl
     parent-right (some k) h = h k (here refl)

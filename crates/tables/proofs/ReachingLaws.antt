@@ -120,7 +120,8 @@ module _ (t : List Gate) where
   of-numbers (refers {b = j} e) = refers (gate_in j e.0, e.1)
   of-numbers (refers_on {b = j} e p) = refers_on (gate_in j e.0, e.1) (of-numbers p)
 
-  to-numbers : {g h : Gate} → Reaches (Refers t) g h → (i j : ℕ) → nth_gate t i ≡ g → j < length t → nth_gate t j ≡ h → Reaches (Edge (refers_at t) (length t)) i j
+  to-numbers : {g h : Gate} → Reaches (Refers t) g h → (i j : ℕ) → nth_gate t i ≡ g → j < length t → nth_gate t j ≡ h
+      → Reaches (Edge (refers_at t) (length t)) i j
   unfolding refers_at
   to-numbers (refers e) i j p l q = refers {a = i} {b = j} (l, rw (p, q) e.1)
   to-numbers (refers_on {b = b} e r) i j p l q =

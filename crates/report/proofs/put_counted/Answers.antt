@@ -39,5 +39,6 @@ returns-in-CountRefused c =
     let w = c.count_table-t in
     let a = c.args in
     rw (refused_prints a.table.now a.columns.now a.plan.now a.values.now c.requires w.new.plan w.result w.ensures.plan_after
-    _ c.in-CountRefused.is refl c.number_of-in-CountRefused.result c.place_of-in-CountRefused.result c.number_of-in-CountRefused.ensures c.place_of-in-CountRefused.ensures)
+    _ c.in-CountRefused.is refl c.number_of-in-CountRefused.result c.place_of-in-CountRefused.result
+    c.number_of-in-CountRefused.ensures c.place_of-in-CountRefused.ensures)
     c.put_refused-in-CountRefused.ensures

@@ -125,10 +125,12 @@ loop-left-preserved c =
     let members = c.settle-members.ensures in (
       rw c.number_in.ensures (sound in-loop-left).1,
       loop.invariant.1
-          ∙ settled-more loop.left (plan in-loop-left) (event in-loop-left) (length (event in-loop-left)) loop.members (place in-loop-left) c.loop-left-test.true
+          ∙ settled-more loop.left (plan in-loop-left) (event in-loop-left) (length (event in-loop-left))
+          loop.members (place in-loop-left) c.loop-left-test.true
           member region members c.number_in.ensures,
       loop.invariant.2
-          ∙ outline-more loop.left (plan in-loop-left) (event in-loop-left) (length (event in-loop-left)) loop.members (place in-loop-left) c.loop-left-test.true loop.outline
+          ∙ outline-more loop.left (plan in-loop-left) (event in-loop-left) (length (event in-loop-left))
+          loop.members (place in-loop-left) c.loop-left-test.true loop.outline
           member on region members c.settle-outline.ensures c.number_in.ensures,
     )
 

@@ -39,7 +39,8 @@ walk-requires c =
     simp (to_z-of_z, c.ranges.x, c.ranges.y) (
       c.requires.0,
       c.requires.1,
-      (passed-by after-run_end-start).same (c.run_end-start.result / 2) (let f = (passed-by after-run_end-start).from in omega arith) (omega arith) c.args.x ∙ holds (goal.at.walk-requires c).In-loop-i,
+      (passed-by after-run_end-start).same (c.run_end-start.result / 2) (let f = (passed-by after-run_end-start).from in omega arith) (omega arith) c.args.x
+          ∙ holds (goal.at.walk-requires c).In-loop-i,
       c.stretch_end-end.ensures,
     )
 
@@ -55,7 +56,8 @@ returns-in-Carried c =
     let k = c.stretch_end-end.result / 2 in
     let m = length c.args.v.now / 2 - k in
     let q : k + m ≡ length c.args.v.now / 2 = omega arith in
-    sym (ap (walked c.args.v.now c.args.x c.args.y) (sym q) ∙ walked-carried c.args.v.now c.args.x c.args.y k m (sym (walk_is (goal.at.returns-in-Carried c).After-walk) ∙ c.in-Carried.is))
+    sym (ap (walked c.args.v.now c.args.x c.args.y) (sym q)
+    ∙ walked-carried c.args.v.now c.args.x c.args.y k m (sym (walk_is (goal.at.returns-in-Carried c).After-walk) ∙ c.in-Carried.is))
 
 pub loop-i-smaller : goal.loop-i-smaller
 loop-i-smaller c =

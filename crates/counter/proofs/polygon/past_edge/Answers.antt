@@ -48,14 +48,16 @@ pub returns-then-between-2 : goal.returns-then-between-2
 returns-then-between-2 c =
     let args = c.args in
     edge_carries args.a args.b args.sum c.side-s.result c.side-s.ensures (line (goal.at.returns-then-between-2 c).Then-s-eq0)
-    (sym (right_is (goal.at.returns-then-between-2 c).After-between) ∙ c.if-between.true) (sym (up_is (goal.at.returns-then-between-2 c).After-between-then-between) ∙ c.if-between-2.true)
+    (sym (right_is (goal.at.returns-then-between-2 c).After-between) ∙ c.if-between.true)
+    (sym (up_is (goal.at.returns-then-between-2 c).After-between-then-between) ∙ c.if-between-2.true)
 
 pub returns-else-between-2 : goal.returns-else-between-2
 returns-else-between-2 c =
     let args = c.args in
     simp (to_z-of_z, c.ranges.sum)
     (edge_on_line args.a args.b args.sum c.side-s.result c.side-s.ensures (line (goal.at.returns-else-between-2 c).Then-s-eq0)
-    (rw (sym (up_is (goal.at.returns-else-between-2 c).After-between-then-between) ∙ c.if-between-2.false) (and-false (between args.a.right args.b.right (pos 0)))))
+    (rw (sym (up_is (goal.at.returns-else-between-2 c).After-between-then-between) ∙ c.if-between-2.false)
+    (and-false (between args.a.right args.b.right (pos 0)))))
 
 pub returns-else-between : goal.returns-else-between
 returns-else-between c =

@@ -96,7 +96,8 @@ past-it c =
     let l = vertex-there c.before.before in
     let e = edge_at (v c.before) (vertex_before (length (v c.before)) (i c.before)) (i c.before) in
     walked-edge (v c.before) c.requires.0.even (x c.before) (y c.before) (i c.before) c.loop-i.invariant.4 (omega arith)
-    ∙ ap (past e (x c.before) (y c.before)) (before_it c.before) ∙ sym (c.past_edge.ensures.is (x c.before) (y c.before) _ _ _ _ (last-seen c.before) (next-seen c.before))
+    ∙ ap (past e (x c.before) (y c.before)) (before_it c.before)
+    ∙ sym (c.past_edge.ensures.is (x c.before) (y c.before) _ _ _ _ (last-seen c.before) (next-seen c.before))
 
 -- carried stays carried to the end of the stretch
 pub returns-in-Carried : goal.returns-in-Carried
@@ -109,7 +110,8 @@ returns-in-Carried c =
     let k = (i after-offset_of-next + 2) / 2 in
     let m = c.args.end / 2 - k in
     let q : k + m ≡ c.args.end / 2 = omega arith in
-    sym (ap (walked (v after-offset_of-next) (x after-offset_of-next) (y after-offset_of-next)) (sym q) ∙ walked-carried (v after-offset_of-next) (x after-offset_of-next) (y after-offset_of-next) k m (past-it (goal.at.returns-in-Carried c).After-past_edge ∙ c.in-Carried.is))
+    sym (ap (walked (v after-offset_of-next) (x after-offset_of-next) (y after-offset_of-next)) (sym q) ∙ walked-carried
+    (v after-offset_of-next) (x after-offset_of-next) (y after-offset_of-next) k m (past-it (goal.at.returns-in-Carried c).After-past_edge ∙ c.in-Carried.is))
 
 pub overflow_add-i : goal.overflow_add-i
 overflow_add-i c = let l = vertex-there (goal.at.overflow_add-i c).In-loop-i in omega arith
@@ -127,7 +129,8 @@ loop-i-preserved c =
     let even = c.loop-i.invariant.4 in
     let end_even = c.requires.3.end_even in
     let holds = past-it (goal.at.loop-i-preserved c).After-past_edge ∙ c.in-Summed.is in
-    let fits = fit-below {w = w64} (omega arith) (walked_in (v after-offset_of-next) (x after-offset_of-next) (y after-offset_of-next) ((i after-offset_of-next + 2) / 2) _ holds) in
+    let fits = fit-below {w = w64} (omega arith)
+    (walked_in (v after-offset_of-next) (x after-offset_of-next) (y after-offset_of-next) ((i after-offset_of-next + 2) / 2) _ holds) in
     simp (to_z-of_z, f.x, f.y, fits) (
       holds,
       rw (before-next (length (v after-offset_of-next)) (i after-offset_of-next) (i after-offset_of-next + 2) refl) (next-seen after-offset_of-next),

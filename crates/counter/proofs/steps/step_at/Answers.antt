@@ -117,7 +117,8 @@ oval_of-requires-in-DecimalEllipse c = (ready (goal.at.oval_of-requires-in-Decim
 
 pub returns-in-DecimalEllipse : goal.returns-in-DecimalEllipse
 returns-in-DecimalEllipse c =
-    rw (c.plane_of-in-DecimalEllipse.ensures, c.oval_of-in-DecimalEllipse.ensures) (step (goal.at.returns-in-DecimalEllipse c).After-head_at-head c.in-DecimalEllipse.is)
+    rw (c.plane_of-in-DecimalEllipse.ensures, c.oval_of-in-DecimalEllipse.ensures)
+    (step (goal.at.returns-in-DecimalEllipse c).After-head_at-head c.in-DecimalEllipse.is)
 
 pub space_of-requires : goal.space_of-requires
 space_of-requires c =

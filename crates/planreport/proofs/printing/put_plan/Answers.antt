@@ -91,10 +91,12 @@ loop-left-preserved c =
     let short = rw (c.part_at-in-loop-left.ensures, long after-number_at-m) at c.put_line_from-at.ensures.upper_bound in
     let written = rw c.part_at-in-loop-left.ensures at c.put_line_from-at.ensures.writes_from in (
       omega (arith, c.loop-left.invariant.0, short),
-      rw (step-next (plan after-number_at-m) (left after-number_at-m) (word after-number_at-m) (ends after-number_at-m) (some after-number_at-m) m) (next_end (plan after-number_at-m) (left after-number_at-m) (word after-number_at-m) (ends after-number_at-m) (some after-number_at-m)),
+      rw (step-next (plan after-number_at-m) (left after-number_at-m) (word after-number_at-m) (ends after-number_at-m) (some after-number_at-m) m)
+          (next_end (plan after-number_at-m) (left after-number_at-m) (word after-number_at-m) (ends after-number_at-m) (some after-number_at-m)),
       c.put_line_from-at.auto.rest ∙ c.loop-left.invariant.2,
       λ d p.
-          progress_more _ d _ _ (c.loop-left.invariant.3 d p) (steps-more (plan after-number_at-m) (left after-number_at-m) (word after-number_at-m) (ends after-number_at-m) (some after-number_at-m) m) written,
+          progress_more _ d _ _ (c.loop-left.invariant.3 d p)
+          (steps-more (plan after-number_at-m) (left after-number_at-m) (word after-number_at-m) (ends after-number_at-m) (some after-number_at-m) m) written,
     )
 
 pub shape_of-out : goal.shape_of-out

@@ -17,7 +17,8 @@ left_text left plan word = unlines (map words_line (step_parts left plan word))
 abbrev pub invariant-loop-left : goal.invariant-loop-left
 invariant-loop-left l =
     (l.at ≤ 22 * l.word) × (steps_end l.left l.plan l.word ≡ length l.plan) × (length l.out ≡ length l.initial.out)
-    × ((d : List ℕ) → Progress (plan_text l.plan) d l.initial.at l.initial.out (left_text l.initial.left l.plan l.initial.word) → Progress (plan_text l.plan) d l.at l.out (left_text l.left l.plan l.word))
+    × ((d : List ℕ) → Progress (plan_text l.plan) d l.initial.at l.initial.out (left_text l.initial.left l.plan l.initial.word)
+    → Progress (plan_text l.plan) d l.at l.out (left_text l.left l.plan l.word))
 
 abbrev pub decreases-loop-left : goal.decreases-loop-left
 decreases-loop-left l = l.left

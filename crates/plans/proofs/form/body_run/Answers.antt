@@ -18,7 +18,8 @@ kind-told c = ap (λ (k : ℕ). eqb k 8) (sym c.kind_number.ensures)
 
 pub returns-then-kind_number-eq8 : goal.returns-then-kind_number-eq8
 returns-then-kind_number-eq8 c =
-    c.ellipsoid_run.ensures ∙ ellipsoid-run-is _ _ _ _ c.args.kind (kind-told (goal.at.returns-then-kind_number-eq8 c).After-kind_number ∙ eq-eqb _ _ c.if-kind_number-eq8.true)
+    c.ellipsoid_run.ensures
+    ∙ ellipsoid-run-is _ _ _ _ c.args.kind (kind-told (goal.at.returns-then-kind_number-eq8 c).After-kind_number ∙ eq-eqb _ _ c.if-kind_number-eq8.true)
 
 pub loop-i-init : goal.loop-i-init
 unfolding body_run

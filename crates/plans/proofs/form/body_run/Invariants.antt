@@ -8,7 +8,8 @@ use Rattle.plans.specs.Inner.Reader.{body_run}
 use Rattle.plans.proofs.form.body_run.Given as goal
 
 abbrev pub invariant-loop-i : goal.invariant-loop-i
-invariant-loop-i l = (l.i ≤ length l.body) × (body_run l.kind l.n l.k l.set l.body ≡ first_bad (body_word l.kind l.n l.k l.set l.body) l.i (length l.body - l.i))
+invariant-loop-i l = (l.i ≤ length l.body)
+    × (body_run l.kind l.n l.k l.set l.body ≡ first_bad (body_word l.kind l.n l.k l.set l.body) l.i (length l.body - l.i))
 
 abbrev pub decreases-loop-i : goal.decreases-loop-i
 decreases-loop-i l = length l.body - l.i

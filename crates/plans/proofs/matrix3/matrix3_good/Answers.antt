@@ -57,7 +57,8 @@ returns-then-matrix_good c =
     let d =
     plus-is c.plus-then-matrix_good.ensures (plus-is c.plus.ensures w1 w2) w3
     ∙ sum-exact bounds (entries entry) (known entry) D tt in
-    c.is_positive.ensures ∙ ap (lt_z (pos 0)) d ∙ sym (ap (test entry) (sym (corner (goal.at.returns-then-matrix_good c).After-matrix_good) ∙ c.if-matrix_good.true))
+    c.is_positive.ensures ∙ ap (lt_z (pos 0)) d
+    ∙ sym (ap (test entry) (sym (corner (goal.at.returns-then-matrix_good c).After-matrix_good) ∙ c.if-matrix_good.true))
 
 pub returns : goal.returns
 unfolding matrix3_good

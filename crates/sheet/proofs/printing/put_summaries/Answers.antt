@@ -8,6 +8,7 @@ pub returns : goal.returns
 unfolding summaries_by
 returns c =
     let a = c.args in record {
-      writes_from = summaries-written a.at _ _ _ a.out.now c.put_summary-a.ensures.writes_from c.put_summary.ensures.writes_from c.put_summary-2.ensures.writes_from;
+      writes_from = summaries-written a.at _ _ _ a.out.now c.put_summary-a.ensures.writes_from
+          c.put_summary.ensures.writes_from c.put_summary-2.ensures.writes_from;
       upper_bound = omega (arith, c.requires.1, c.put_summary-a.ensures.upper_bound, c.put_summary.ensures.upper_bound, c.put_summary-2.ensures.upper_bound);
     }
