@@ -1,7 +1,7 @@
 /*
  * gatecompile.h: compiles a gate table into a plan, ashore.
  *
- * Link with libgatecompile.a, which `rt staticlib gatecompile` writes to target/staticlib.
+ * Link with libgatecompile.a, which `tools/build gatecompile` writes to target/staticlib.
  *
  * A table is the bytes of a tab-separated text, see docs/FORMAT.md; a plan is a list of signed 32-bit words, see gatecount.h.
  *

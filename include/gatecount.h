@@ -2,7 +2,7 @@
  * gatecount.h: checks a gate plan, judges one event by it and counts the members of its regions.
  *
  * Link with libgatec.a (gate_check, gate_count) and, where events are judged one by one, libgatejudge.a (gate_judge);
- * `rt staticlib gatec` and `rt staticlib gatejudge` write them to target/staticlib.
+ * `tools/build gatec` and `tools/build gatejudge` write them to target/staticlib.
  *
  * A plan is a list of signed 32-bit words that the compiler of gate tables writes:
  *
