@@ -5,7 +5,7 @@ use mathlib.Core.List.Memᴰ.{head as here}
 use mathlib.Core.List.Memᴰ.{tail as there}
 use mathlib.Core.List.{List, [], ◌∷◌, map}
 use mathlib.Core.Path.{refl}
-use Prim.Native.Nat.{ℕ, ◌-◌, ◌<◌, ◌≤◌}
+use Prim.Native.Nat.{ℕ, ◌<◌, ◌≤◌}
 use native.Mathlib.Omega.{arith}
 use lib.Dec.{ltb}
 use lib.ListN.{length, get_or, length-append, length-map, length-drop}
@@ -27,8 +27,8 @@ use Rattle.tables.proofs.RuleLaws.{Unrefused as Held, rules_hold}
 use Rattle.tables.proofs.Acceptance.{not-refused, unless-passed, passed-unless}
 use Rattle.tables.proofs.CompileLaws.{head-width}
 use Rattle.tablecheck.specs.Inner.Names.{GoodLines}
-use Rattle.resolve.specs.Inner.Reading.{fields_at, gates_at}
-use Rattle.resolve.proofs.StartLaws.{Indexed, gates-read}
+use Rattle.resolve.specs.Inner.Reading.{starts_of, gate_count, fields_at, gates_at}
+use Rattle.resolve.proofs.StartLaws.{indexed, gates-read}
 use Rattle.tablecheck.specs.Inner.TextVerdict.{names_verdict, lines_verdict, text_verdict}
 use Rattle.tablecheck.proofs.CursorLaws.{table-verdict}
 use Rattle.tableregions.specs.Inner.Settled.{Settled}
@@ -98,37 +98,40 @@ module _ (text : List ℕ) (u : Unrefused text) where
             ap (λ (x : List ℕ). line_refusal (dimensions text) (fields x)) (sym i.2) ∙ line-passes i.0 i.1),
       )
 
-  module _ (starts : List ℕ) (x : Indexed text starts) {l : ℕ} (c : l ≡ length (lines text)) {n : ℕ} (e : n ≡ l - 1) where
+  -- ---- what is read through the places of the lines is the table
+
+  module _ {t starts : List ℕ} {n : ℕ} (a : t ≡ text) (b : starts ≡ starts_of text) (c : n ≡ gate_count text) where
     number_read : n ≡ length (gate_lines text)
     unfolding gate_lines
     number_read = omega (arith, length-drop 1 (lines text))
 
-    pub read : gates_at text starts n ≡ gates text
-    read = rw number_read (gates-read text starts x (omega (arith, gate_lines-few)))
+    read : gates_at t starts n ≡ gates text
+    read = rw (a, b, number_read) (gates-read text (starts_of text) (indexed text) (omega (arith, gate_lines-few)))
 
-    pub plan-read : plan_words (length (dimensions text)) (regions (gates_at text starts n)) ≡ plan_of text
+    pub plan-read : plan_words (length (dimensions t)) (regions (gates_at t starts n)) ≡ plan_of text
     unfolding plan_of
-    plan-read = rw read
+    plan-read = rw (read, a)
 
-    pub words-read : {words : ℕ} → words ≡ length (plan_words (length (dimensions text)) (regions (gates_at text starts n))) → words ≡ length (plan_of text)
+    pub words-read : {words : ℕ} → words ≡ length (plan_words (length (dimensions t)) (regions (gates_at t starts n))) → words ≡ length (plan_of text)
     words-read w = w ∙ ap length plan-read
 
-    pub regions-read : {total : ℕ} → total ≡ length (regions (gates_at text starts n)) → total ≡ length (regions (gates text))
-    regions-read t = t ∙ ap (λ (g : List Gate). length (regions g)) read
+    pub regions-read : {total : ℕ} → total ≡ length (regions (gates_at t starts n)) → total ≡ length (regions (gates text))
+    regions-read e = e ∙ ap (λ (g : List Gate). length (regions g)) read
 
-    good-read : (i : ℕ) → i < n → line_refusal (dimensions text) (fields_at text starts i) ≡ no_refusal
+    good-read : (i : ℕ) → i < n → line_refusal (dimensions t) (fields_at t starts i) ≡ no_refusal
     unfolding fields_at
-    good-read i h = rw (x i (omega (arith, number_read, gate_lines-few)) (omega (arith, number_read))) (line-passes i (omega (arith, number_read)))
+    good-read i h =
+        rw (a, b, indexed text i (omega (arith, number_read, gate_lines-few)) (omega (arith, number_read))) (line-passes i (omega (arith, number_read)))
 
     gates-number : length (gates text) ≡ n
     unfolding gates
     gates-number = length-map (gate_lines text) (line_gate (dimensions text)) ∙ sym number_read
 
-    pub settled : Settled text starts n
+    pub settled : Settled t starts n
     settled =
         let w = head-width text tests.0 in
         record {
-          narrow = w.1;
+          narrow = rw a w.1;
           few = rw read few;
           good = good-read;
           alive = λ i h. rw read (tests.2.not_15 i (rw gates-number h));

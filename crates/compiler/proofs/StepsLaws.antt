@@ -5,6 +5,8 @@ use Prim.Native.Nat.{ℕ, suc, ◌+◌, ◌-◌, ◌*◌, ◌<◌, ◌≤◌}
 use native.Mathlib.Omega.{arith}
 use native.Mathlib.Nat.{sub-zero}
 use lib.IntN.{ℤ}
+use borrow.Author.Tests.{lt-ltb}
+use Rattle.std.specs.Prelude.{Some}
 use lib.ListN.{length, take, drop, length-append, length-drop}
 use lib.Seq.{take_all, length-take-le}
 use Rattle.plans.specs.Indices.{first_bad}
@@ -17,6 +19,9 @@ use Rattle.tables.specs.Steps.{next_region, order_from, order, step_words, steps
 use Rattle.tables.proofs.LoopLaws.{order-next, order_end}
 use Rattle.graph.specs.Inner.Rows.{held, Referring}
 use Rattle.graph.proofs.RowLaws.{next-region}
+use Rattle.resolve.specs.Inner.Reading.{regions_at}
+use Rattle.tableregions.specs.Inner.Located.{located_at, in_table}
+use Rattle.tableregions.proofs.PlaceLaws.{gate_inside}
 
 order-none : (rs : List Region) (written : ℕ) → steps_words rs (order_from 0 rs written) ≡ []
 unfolding order_from
@@ -95,3 +100,9 @@ pub next-is : (rs : List Region) (rows : List ℕ) → Referring rs rows → {to
     → r ≡ first_bad (held rows written) 0 total
     → r ≡ next_region rs written
 next-is rs rows f {total} e written {r} g = g ∙ ap (λ (k : ℕ). first_bad (held rows written) 0 k) e ∙ next-region rs rows f written
+
+-- a region that there is stands at a gate
+pub located : (text starts : List ℕ) (n r : ℕ) → r < length (regions_at text starts n)
+    → in_table n (located_at text starts n r) ≡ Some (located_at text starts n r)
+located text starts n r h =
+    rw (lt-ltb (located_at text starts n r).gate n (gate_inside text starts n r {x = located_at text starts n r} refl h))

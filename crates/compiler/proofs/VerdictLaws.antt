@@ -19,9 +19,7 @@ use Rattle.tables.specs.Steps.{plan_words}
 use Rattle.tables.specs.Refusals.{unless_line, refusal_at, line_good, always, uncrowded, unrepeated, living, uncircled, size_verdict, gates_verdict, table_verdict}
 use Rattle.tables.proofs.Acceptance.{Accepted, passed-accepted}
 use Rattle.tables.specs.Compile.{Compiling, plan_of, compiled, uncompiled, compile_of}
-use Rattle.tablecheck.specs.declared.Answer.{Answer}
-use Rattle.tablecheck.specs.declared.Answer.TheVariants.{Fine}
-use Rattle.tablecheck.specs.Inner.TextVerdict.{answered, names_verdict, lines_verdict, text_verdict}
+use Rattle.tablecheck.specs.Inner.TextVerdict.{names_verdict, lines_verdict, text_verdict}
 use Rattle.tablecheck.proofs.CursorLaws.{table-verdict}
 use Rattle.tablecheck.proofs.LineNumberLaws.{line-listed}
 use Rattle.compiler.specs.Inner.Unrefused.{Unrefused}
@@ -108,10 +106,10 @@ module _ (text : List ℕ) (room : ℕ) where
   refuses : (number place : ℕ) → refused number place ≡ table_verdict room text → 1 ≤ number → Refuses (refused number place)
   refuses number place e h = (e, rw (← e) (sym (ne_eqb number 0 (λ z. omega arith))))
 
-  refused_16 : (number place : ℕ) → ((v : Verdict) → refused number place ≡ text_verdict text v) → Refuses (refused number place)
-  refused_16 number place h =
-      let n : 1 ≤ number = rw (← h (refused 1 0)) at (text-named text (refused 1 0) (omega arith)) in
-      refuses number place (h _ ∙ sym (table-verdict room text)) n
+  pub refused_16 : {v : Verdict} → ((w : Verdict) → v ≡ text_verdict text w) → Refuses v
+  refused_16 {v} h =
+      let n : 1 ≤ v.number = rw (← h (refused 1 0)) at (text-named text (refused 1 0) (omega arith)) in
+      refuses v.number v.place (h _ ∙ sym (table-verdict room text)) n
 
   -- ---- 17, 18, and none
 
@@ -134,15 +132,6 @@ module _ (text : List ℕ) (room : ℕ) where
       accepted l =
           let e : passed ≡ table_verdict room text = rw (by_size, le-ltb 4096 (length (plan_of text)) h, le-ltb room (length (plan_of text)) l) in
           (e, rw (← e))
-
--- ---- by the answer of the check
-
-module _ (text : List ℕ) (room : ℕ) {a : Answer} (h : (v : Verdict) → answered a v ≡ text_verdict text v) where
-  pub refused_as : {x : Answer} → a ≡ x → (number place : ℕ) → ((v : Verdict) → answered x v ≡ refused number place) → Refuses text room (refused number place)
-  refused_as e number place f = refused_16 text room number place (λ v. sym (f v) ∙ ap (λ (y : Answer). answered y v) (sym e) ∙ h v)
-
-  pub unrefused-as : a ≡ Fine → Unrefused text
-  unrefused-as e v = ap (λ (y : Answer). answered y v) (sym e) ∙ h v
 
 -- ---- what compiling answers by the verdict
 

@@ -2,7 +2,7 @@
 use mathlib.Core.Path.{◌≡◌, refl, sym, ap, ap₂, ◌∙◌}
 use mathlib.Core.Bool.{Bool, true, false, not, cond, ◌&&◌, ◌||◌, and_assoc, and-true, and-false, or-false, and-or_distrib_left}
 use mathlib.Core.List.{List, [], ◌∷◌}
-use Prim.Native.Nat.{ℕ, zero, suc, ◌+◌, ◌-◌, ◌*◌, ◌/◌, ◌%◌, ◌<◌, ◌≤◌}
+use Prim.Native.Nat.{ℕ, zero, suc, ◌+◌, ◌-◌, ◌*◌, ◌/◌, ◌<◌, ◌≤◌}
 use native.Mathlib.Omega.{arith}
 use native.Mathlib.Decide.{dec_lt}
 use native.Mathlib.Nat.{mul-le-mul_right, add-mul, div-eq_of_lt, lt_of_lt_of_le}
@@ -15,6 +15,7 @@ use lib.Seq.{get_or-set_same, get_or-set_other, get_or-take, get_or-drop, take-t
 use lib.Bits.{bit_and, bit_or}
 use lib.Dec.{leb, ltb}
 use borrow.Author.Tests.{eq-eqb, ne_eqb, lt-ltb, le-ltb, lt-leb, le-leb, ltb-true}
+use Rattle.std.proofs.Common.{Option, None, Some}
 use Rattle.plans.specs.Indices.{all, any}
 use Rattle.plans.specs.Words.{word, number, on_scale, part}
 use Rattle.plans.specs.Bits.{has_bit, with_bit}
@@ -27,7 +28,7 @@ use Rattle.counter.specs.Members.{value_in, triple_in, box_in, operand_in, paren
 use Rattle.counter.specs.Judging.{value_good, taken, members, unclaimed}
 use Rattle.counter.specs.Counting.{event_at, taken_at, member_at, unclaimed_at, tally_of}
 use Rattle.counter.specs.declared.Tally.{Tally}
-use Rattle.counter.specs.Inner.Steps.{parent_region, head_at, step_at, Taken, Operands, Sound, AllSound}
+use Rattle.counter.specs.Inner.Steps.{parent_region, in_parent, SomeRegion, step_at, Taken, Operands, Sound, AllSound}
 use Rattle.counter.specs.Inner.Groups.{First, SetOf, Those, Candidates, Agree, Matched, MemberSets, outside, in_set, in_none, first_of, from_to, triple_at, triples_at, operand_at, all_at, any_at, parent_at, drawn_at, shape_at, member_by, member_in}
 use Rattle.counter.specs.declared.steps.Shape.TheVariants.{Box}
 use Rattle.counter.specs.declared.steps.Step.{Step}
@@ -224,13 +225,11 @@ module _ (among : ℕ) (test : ℕ → Bool) where
 
 module _ (n : ℕ) (group body : List ℤ) where
   -- an event's value is in the range of a triple
-  pub span_triple : (i : ℕ) → i % 3 ≡ 0 → {d : ℕ} → d ≡ number (word body i) → {value min max : ℤ} (e : ℕ) → value ≡ word (event_at n group e) d
-      → min ≡ word body (i + 1) → max ≡ word body (i + 2) → {span : ℕ} → pos span ≡ max -ℤ min
-      → (le_z (pos 0) (value -ℤ min) && lt_z (value -ℤ min) (pos span)) ≡ triple_at n group body (i / 3) e
+  pub span_triple : (t : ℕ) {d : ℕ} → d ≡ number (word body (3 * t)) → {value min max : ℤ} (e : ℕ) → value ≡ word (event_at n group e) d
+      → min ≡ word body (3 * t + 1) → max ≡ word body (3 * t + 2) → {span : ℕ} → pos span ≡ max -ℤ min
+      → (le_z (pos 0) (value -ℤ min) && lt_z (value -ℤ min) (pos span)) ≡ triple_at n group body t e
   unfolding triple_at triple_in value_in
-  span_triple i third {d} ed {value} {min} {max} e ev em ex es =
-      let q : 3 * (i / 3) ≡ i = omega arith in
-      span_range value min max es ∙ rw (q, ← ed, ← ev, ← em, ← ex)
+  span_triple t {d} ed {value} {min} {max} e ev em ex es = span_range value min max es ∙ rw (← ed, ← ev, ← em, ← ex)
 
   -- no triple asked, and one more
   pub triples_none : (among : ℕ) → Those among (triples_at n group body 0) among
@@ -293,11 +292,10 @@ module _ (sets : List ℕ) (body : List ℤ) where
 -- ---- asking the step at a place
 
 module _ {p : List ℤ} {n at : ℕ} (s : Sound p n at) (group : List ℤ) {taken : ℕ} {sets : List ℕ} {bits : ℕ → ℕ} (k : Matched taken sets bits)
-    {parent : ℕ} (ep : parent ≡ parent_region (word p (at + 2))) {set : ℕ} (es : SetOf (parent_at sets taken parent) set) where
+    {parent : Option ℕ} (ep : parent ≡ parent_region (word p (at + 2))) {set : ℕ} (es : SetOf (parent_at sets taken parent) set) where
   -- the events to ask are those taken that are in the parent
   in_parent_lem : (e : ℕ) → e < 64 → has_bit (bit_and taken set) e ≡ (has_bit taken e && parent_in (bits e) (word p (at + 2)))
-  unfolding parent_at
-  in_parent_lem e h = has_and taken set e ∙ rw (es.each e h, parent_is s (bits e), ← ep) (go (dec_lt parent 64))
+  in_parent_lem e h = has_and taken set e ∙ rw (es.each e h, (parent_is s (bits e)).0, ← ep) (go parent (rw ep (parent_is s (bits e)).1))
     where
       twice : (a b : Bool) → (a && (a && b)) ≡ (a && b)
       twice true b = refl
@@ -307,10 +305,9 @@ module _ {p : List ℤ} {n at : ℕ} (s : Sound p n at) (group : List ℤ) {take
       both true = refl
       both false = refl
 
-      go : Dec (parent < 64) → (has_bit taken e && cond (ltb parent 64) (in_set sets e parent) (has_bit taken e))
-          ≡ (has_bit taken e && cond (ltb parent 64) (has_bit (bits e) parent) true)
-      go (yes l) = rw (lt-ltb parent 64 l, k.each e parent h l) (twice (has_bit taken e) (has_bit (bits e) parent))
-      go (no l) = rw (le-ltb parent 64 (omega arith)) (both (has_bit taken e))
+      go : (q : Option ℕ) → SomeRegion q → (has_bit taken e && parent_at sets taken q e) ≡ (has_bit taken e && in_parent (bits e) q)
+      go None l = both (has_bit taken e)
+      go (Some r) l = rw (k.each e r h l) (twice (has_bit taken e) (has_bit (bits e) r))
 
   -- those of them in the shape are the members that the step makes
   pub step_those : {step : Step} → step ≡ step_at p at → {body : List ℤ} → body ≡ body_at p at → {found : ℕ}
@@ -318,7 +315,7 @@ module _ {p : List ℤ} {n at : ℕ} (s : Sound p n at) (group : List ℤ) {take
   unfolding shape_at member_by step_in step_at
   step_those {step} e1 {body} e2 t = record {
     each = λ e h. t.each e h
-        ∙ rw (in_parent_lem e h, e1, e2, (position_tells (kind_at p at) (head_at p at) (event_at n group e) (bits e) (body_at p at)).0)
+        ∙ rw (in_parent_lem e h, e1, e2, (position_tells (kind_at p at) (event_at n group e) (bits e) (body_at p at)).0)
         (and_assoc (has_bit taken e) (parent_in (bits e) (word p (at + 2))) _);
   }
 

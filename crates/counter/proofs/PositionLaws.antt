@@ -12,7 +12,7 @@ use Rattle.plans.proofs.IndexLaws.{clash}
 use Rattle.wide.proofs.OrderLaws.{order_mul}
 use Rattle.counter.specs.Polygon.{on_outline, winding, in_polygon}
 use Rattle.wide.specs.Inner.Values.{order_of}
-use Rattle.wide.specs.declared.Order.TheVariants.{Less, Equal, Greater}
+use Rattle.std.specs.declared.cmp.Ordering.TheVariants.{Less, Equal, Greater}
 use Rattle.counter.specs.Ellipse.{form, determinant, in_ellipse}
 use Rattle.counter.specs.DecimalEllipse.{decimal_left, decimal_right, in_decimal_ellipse, decimal_ellipse_position}
 use Rattle.counter.specs.Ellipsoid.{ellipsoid_left, ellipsoid_right, in_ellipsoid, ellipsoid_position}

@@ -21,8 +21,7 @@ use Rattle.counter.specs.Inner.Ranges.{OnScale}
 use Rattle.counter.specs.Inner.Walks.{SeenFrom, Near, PastEdge, one_of, turn_for, vertex_before, beyond, four_beyond, Apart}
 use Rattle.counter.specs.declared.Position.TheVariants.{Outside, Inside, OnOutline}
 use Rattle.counter.specs.declared.polygon.Offset.{Offset}
-use Rattle.counter.specs.declared.polygon.Walked.{Walked}
-use Rattle.counter.specs.declared.polygon.Walked.TheVariants.{Carried, Summed}
+use Rattle.std.proofs.Common.{Option, None, Some}
 use Rattle.integers.proofs.Booleans.{cond-case}
 use Rattle.integers.proofs.Equality.{eq_z-true}
 use Rattle.plans.proofs.IndexLaws.{and_both}
@@ -51,29 +50,29 @@ module _ (x y : ℤ) where
   over-next : (es : List Edge) (e : Edge) → over (es ++ (e ∷ [])) x y ≡ past e x y (over es x y)
   unfolding over on_some crossings
   over-next es e =
-      ap₂ (λ (o : Bool) (z : ℤ). cond o Carried (Summed z)) (on_append es (e ∷ []))
+      ap₂ (λ (o : Bool) (z : ℤ). cond o None (Some z)) (on_append es (e ∷ []))
       (crossings_append es (e ∷ []) ∙ ap (λ (z : ℤ). crossings es x y +ℤ z) (+ℤ_idr (crossing e x y)))
       ∙ go (on_some es x y)
     where
       go : (o : Bool)
-          → cond (o || (on_edge e x y || false)) Carried (Summed (crossings es x y +ℤ crossing e x y)) ≡ past e x y (cond o Carried (Summed (crossings es x y)))
+          → cond (o || (on_edge e x y || false)) None (Some (crossings es x y +ℤ crossing e x y)) ≡ past e x y (cond o None (Some (crossings es x y)))
       go true = refl
       go false = rw (or-false (on_edge e x y))
 
   -- what is carried stays carried, whatever comes behind
-  over-carried : (es fs : List Edge) → over es x y ≡ Carried → over (es ++ fs) x y ≡ Carried
+  over-carried : (es fs : List Edge) → over es x y ≡ None → over (es ++ fs) x y ≡ None
   unfolding over
   over-carried es fs e = go (on_some es x y) refl e
     where
-      go : (o : Bool) → on_some es x y ≡ o → cond o Carried (Summed (crossings es x y)) ≡ Carried
-          → cond (on_some (es ++ fs) x y) Carried (Summed (crossings (es ++ fs) x y)) ≡ Carried
+      go : (o : Bool) → on_some es x y ≡ o → cond o None (Some (crossings es x y)) ≡ None
+          → cond (on_some (es ++ fs) x y) None (Some (crossings (es ++ fs) x y)) ≡ None
       go true q e = rw (on_append es fs, q)
       go false q e = absurd (let z : ◌≡◌ {A = ℕ} 0 1 = cc in omega arith)
 
 -- ---- after k edges
 module _ (v : List ℤ) (x y : ℤ) where
   -- before the first
-  pub walked_start : walked v x y 0 ≡ Summed (pos 0)
+  pub walked_start : walked v x y 0 ≡ Some (pos 0)
   unfolding walked over on_some crossings
   walked_start = refl
 
@@ -83,7 +82,7 @@ module _ (v : List ℤ) (x y : ℤ) where
   walked_next k d h = ap (λ (es : List Edge). over es x y) (take-suc (edges v) k d h) ∙ over-next x y (take k (edges v)) (get_or (edges v) k d)
 
   -- carried stays carried
-  pub walked-carried : (k m : ℕ) → walked v x y k ≡ Carried → walked v x y (k + m) ≡ Carried
+  pub walked-carried : (k m : ℕ) → walked v x y k ≡ None → walked v x y (k + m) ≡ None
   unfolding walked
   walked-carried k m e =
       ap (λ (es : List Edge). over es x y) (take-add k m (edges v)) ∙ over-carried x y (take k (edges v)) (take m (drop k (edges v))) e
@@ -93,7 +92,7 @@ module _ (v : List ℤ) (x y : ℤ) where
   unfolding walked over polygon_position
   walked-done k h = rw (take_all k (edges v) h) (go (on_outline v x y))
     where
-      go : (o : Bool) → found (cond o Carried (Summed (winding v x y))) ≡ cond o OnOutline (cond (eq_z (winding v x y) (pos 0)) Outside Inside)
+      go : (o : Bool) → found (cond o None (Some (winding v x y))) ≡ cond o OnOutline (cond (eq_z (winding v x y) (pos 0)) Outside Inside)
       go true = refl
       go false = refl
 
@@ -188,14 +187,14 @@ unfolding crossings crossing
 crossings_in x y [] = in_lit (pos 0)
 crossings_in x y (e ∷ es) = record { abs = omega (arith, (in_add (turn_in e.y0 e.y1 y (side e x y)) (crossings_in x y es)).abs) }
 
-pub walked_in : (v : List ℤ) (x y : ℤ) (k : ℕ) (sum : ℤ) → walked v x y k ≡ Summed sum → In k sum
+pub walked_in : (v : List ℤ) (x y : ℤ) (k : ℕ) (sum : ℤ) → walked v x y k ≡ Some sum → In k sum
 unfolding walked over
 walked_in v x y k sum e = go (on_some (take k (edges v)) x y) e
   where
-    summed : {a b : ℤ} → Summed a ≡ Summed b → a ≡ b
+    summed : {a b : ℤ} → Some a ≡ Some b → a ≡ b
     summed e = cc
 
-    go : (o : Bool) → cond o Carried (Summed (crossings (take k (edges v)) x y)) ≡ Summed sum → In k sum
+    go : (o : Bool) → cond o None (Some (crossings (take k (edges v)) x y)) ≡ Some sum → In k sum
     go true q = absurd (let z : ◌≡◌ {A = ℕ} 0 1 = cc in omega arith)
     go false q =
         let c = crossings_in x y (take k (edges v)) in
@@ -229,16 +228,16 @@ module _ (a b : Offset) (sum s : ℤ) (side-is : s ≡ a.right *ℤ b.up -ℤ b.
     aside_adds p = rw (from.up_is, to.up_is, ← s-is) (turn_aside y0 y1 y s p)
 
   -- it carries the point
-  pub edge_carries : eq_z s (pos 0) ≡ true → between a.right b.right (pos 0) ≡ true → between a.up b.up (pos 0) ≡ true → PastEdge a b sum Carried
+  pub edge_carries : eq_z s (pos 0) ≡ true → between a.right b.right (pos 0) ≡ true → between a.up b.up (pos 0) ≡ true → PastEdge a b sum None
   edge_carries p q r = record { is = λ x y x0 y0 x1 y1 from to. rw (on_is from to, p, q, r) }
 
   -- the point is on its line, but not on it
-  pub edge_on_line : eq_z s (pos 0) ≡ true → (between a.right b.right (pos 0) && between a.up b.up (pos 0)) ≡ false → PastEdge a b sum (Summed sum)
-  edge_on_line p q = record { is = λ x y x0 y0 x1 y1 from to. rw (on_is from to, p, q) (ap Summed (line-adds from to p)) }
+  pub edge_on_line : eq_z s (pos 0) ≡ true → (between a.right b.right (pos 0) && between a.up b.up (pos 0)) ≡ false → PastEdge a b sum (Some sum)
+  edge_on_line p q = record { is = λ x y x0 y0 x1 y1 from to. rw (on_is from to, p, q) (ap Some (line-adds from to p)) }
 
   -- the point is not on its line
-  pub edge_aside : eq_z s (pos 0) ≡ false → PastEdge a b sum (Summed (sum +ℤ turn_for a.up b.up s))
-  edge_aside p = record { is = λ x y x0 y0 x1 y1 from to. rw (on_is from to, p) (ap (λ (z : ℤ). Summed (sum +ℤ z)) (aside_adds from to p)) }
+  pub edge_aside : eq_z s (pos 0) ≡ false → PastEdge a b sum (Some (sum +ℤ turn_for a.up b.up s))
+  edge_aside p = record { is = λ x y x0 y0 x1 y1 from to. rw (on_is from to, p) (ap (λ (z : ℤ). Some (sum +ℤ z)) (aside_adds from to p)) }
 
 pub turn_for_in : (from to s : ℤ) → In 2 (turn_for from to s)
 turn_for_in from to s =
@@ -246,9 +245,9 @@ turn_for_in from to s =
     (λ _. in_le tt (in_lit (pos 0)))
 
 -- ---- edges off the height
-past-apart : (e : Edge) (x y : ℤ) → between e.y0 e.y1 y ≡ false → (w : Walked) → past e x y w ≡ w
-past-apart e x y h Carried = refl
-past-apart e x y h (Summed sum) = rw (on_edge-apart e x y h, ← crossing-apart e x y h) (ap Summed (+ℤ_idr sum))
+past-apart : (e : Edge) (x y : ℤ) → between e.y0 e.y1 y ≡ false → (w : Option ℤ) → past e x y w ≡ w
+past-apart e x y h None = refl
+past-apart e x y h (Some sum) = rw (on_edge-apart e x y h, ← crossing-apart e x y h) (ap Some (+ℤ_idr sum))
 
 module _ (v : List ℤ) (whole : length v % 2 ≡ 0) (y : ℤ) where
   -- the height of the vertex before the one at i

@@ -8,19 +8,16 @@ ghost use Rattle.counter.specs.Inner.Groups.{SetOf, Those, first_of, from_to, Ca
 ghost use Rattle.counter.specs.Inner.Raising.{bumped};
 
 use crate::Tally;
-use crate::reading::{bit_in, least, number_in, settle};
-use crate::sets::{complement, step_of};
+use crate::reading::{bit_in, number_in, settle};
+use crate::sets::{complement, event_of, step_of};
 
 // Whether all values are on the scale. No jump, so that the machine asks several at once.
 fn on_scale(values: &[i32]) -> bool
     ensures { result ≡ taken values.now }
 {
     let mut good = true;
-    let mut i = 0;
-    while i < values.len() {
-        let v = values[i];
+    for &v in values {
         good = good & (-65536 <= v) & (v <= 65535);
-        i += 1;
     }
     good
 }
@@ -39,12 +36,9 @@ fn taken_each(group: &[i32], n: usize, taken: u64, from: usize, to: usize) -> u6
     ensures { SetOf (first_of (taken_at n group.now) to) result }
 {
     let mut all = taken;
-    let mut e = from;
-    while e < to {
-        let start = e * n;
-        let whole = on_scale(&group[start..start + n]);
+    for e in from..to {
+        let whole = on_scale(event_of(group, n, e));
         all = settle(all, e, whole);
-        e += 1;
     }
     all
 }
@@ -70,7 +64,7 @@ fn taken_of(group: &[i32], n: usize, g: usize) -> u64
     let mut taken = 0u64;
     let mut e = 0;
     while e < g {
-        let next = e + least(g - e, 8);
+        let next = e + (g - e).min(8);
         taken = taken_some(group, n, taken, e, next);
         e = next;
     }
@@ -83,16 +77,14 @@ fn sets_of(plan: &[i32], group: &[i32], n: usize, g: usize, taken: u64) -> [u64;
     ensures { MemberSets plan.now n group.now taken result }
 {
     let mut sets = [0u64; 64];
-    let mut left = number_in(plan, 1);
     let mut at = 2;
-    while 0 < left {
+    for _ in 0..number_in(plan, 1) {
         let found = step_of(plan, group, n, g, taken, &sets, at);
         let r = number_in(plan, at + 1);
         // No step before has set region r, so old is 0; the union spares the proof of it.
         let old = sets[r];
         sets[r] = old | found;
         at = at + 4 + number_in(plan, at + 3);
-        left -= 1;
     }
     sets
 }
@@ -103,10 +95,8 @@ fn in_none(taken: u64, sets: &[u64; 64], m: usize) -> u64
     ensures { Those taken (in_none sets.now m) result }
 {
     let mut rest = taken;
-    let mut q = 0;
-    while q < m {
+    for q in 0..m {
         rest = rest & complement(sets[q]);
-        q += 1;
     }
     rest
 }
@@ -117,12 +107,10 @@ fn bump(counts: &mut [u64; 64], sets: &[u64; 64], e: usize, m: usize)
         × (m ≤ 64) × (e < 64) × ((r : ℕ) → m ≤ r → r < 64 → in_set sets.now e r ≡ false) }
     ensures { counts.new ≡ bumped counts.old (in_set sets.now e) }
 {
-    let mut r = 0;
-    while r < m {
+    for r in 0..m {
         let x = counts[r];
         let set = sets[r];
         counts[r] = x + (set >> e) % 2;
-        r += 1;
     }
 }
 
@@ -146,8 +134,7 @@ pub fn count_group(
     let steps = number_in(plan, 1);
     let unclaimed = in_none(taken, &sets, steps);
     let mut t = tally;
-    let mut e = 0;
-    while e < g {
+    for e in 0..g {
         if bit_in(taken, e) {
             bump(&mut t.counts, &sets, e, steps);
             t.taken += 1;
@@ -155,7 +142,6 @@ pub fn count_group(
         } else {
             t.spoilt += 1;
         }
-        e += 1;
     }
     t
 }

@@ -4,27 +4,19 @@ ghost use Rattle.counter.specs.Positions.{not_outside, is_on_outline};
 ghost use Rattle.counter.specs.Inner.Steps.{position_by, without_outline};
 
 use crate::Position;
-use wide::Order;
+use std::cmp::Ordering;
 
 // In the shape: not outside.
 pub fn not_outside(position: Position) -> bool
     ensures { result ≡ not_outside position }
 {
-    match position {
-        Position::Outside => false,
-        Position::Inside => true,
-        Position::OnOutline => true,
-    }
+    position != Position::Outside
 }
 
 pub fn is_on_outline(position: Position) -> bool
     ensures { result ≡ is_on_outline position }
 {
-    match position {
-        Position::Outside => false,
-        Position::Inside => false,
-        Position::OnOutline => true,
-    }
+    position == Position::OnOutline
 }
 
 // The position of an event to a shape that has no outline, a box or a combination.
@@ -39,12 +31,12 @@ pub fn without_outline(member: bool) -> Position
 }
 
 // The position by how the left side of a rule compares with the right: on the outline where both are equal.
-pub fn position_by(order: Order) -> Position
+pub fn position_by(order: Ordering) -> Position
     ensures { result ≡ position_by order }
 {
     match order {
-        Order::Less => Position::Inside,
-        Order::Equal => Position::OnOutline,
-        Order::Greater => Position::Outside,
+        Ordering::Less => Position::Inside,
+        Ordering::Equal => Position::OnOutline,
+        Ordering::Greater => Position::Outside,
     }
 }

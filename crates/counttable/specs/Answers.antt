@@ -1,20 +1,21 @@
 -- What counting by a table answers.
-use Rattle.std.specs.Prelude.{List, ℤ}
-use Rattle.plans.specs.Refusals.{passed, refused, refusal}
-use Rattle.counter.specs.declared.Tally.{Tally}
+use Rattle.std.specs.Prelude.{List as ListOf, ℤ, Result, Ok, Err}
+use Rattle.plans.specs.Refusals.{Verdict, passed, refused, refusal}
+use Rattle.counter.specs.Counting.{no_tally}
 use Rattle.tables.specs.TableCount.{TableCounting}
-use Rattle.compiler.specs.Answers.{table_refusal}
-use Rattle.counttable.specs.declared.Outcome.{Outcome}
-use Rattle.counttable.specs.declared.Outcome.TheVariants.{Counted, TableRefused, WrongColumns, CountRefused}
-use Rattle.counttable.specs.declared.TableCount.{TableCount}
+use Rattle.heads.specs.Answers.{wrong_columns}
+use Rattle.tablecheck.specs.Answers.{table_refusal}
+use Rattle.counttable.specs.declared.Refusal.{Refusal}
+use Rattle.counttable.specs.declared.Refusal.TheVariants.{Table, Columns, List}
+use Rattle.counttable.specs.declared.Counted.{Counted}
 
--- what an outcome says, with the tally and the slice afterwards; a refusal reports 0 words and 0 regions
-abbrev pub outcome_counting : Outcome → Tally → List ℤ → TableCounting
-outcome_counting (Counted words regions) tally slice = record { verdict = passed; words = words; regions = regions; tally = tally; slice = slice }
-outcome_counting (TableRefused r) tally slice = record { verdict = table_refusal r; words = 0; regions = 0; tally = tally; slice = slice }
-outcome_counting (WrongColumns field) tally slice = record { verdict = refused 31 field; words = 0; regions = 0; tally = tally; slice = slice }
-outcome_counting (CountRefused r) tally slice = record { verdict = refusal r; words = 0; regions = 0; tally = tally; slice = slice }
+-- the number and place of each refusal
+abbrev pub count_refusal : Refusal → Verdict
+count_refusal (Table r) = table_refusal r
+count_refusal (Columns w) = wrong_columns w
+count_refusal (List r) = refusal r
 
--- what an answer says, with the slice afterwards
-abbrev pub table_counting : TableCount → List ℤ → TableCounting
-table_counting t slice = outcome_counting t.outcome t.tally slice
+-- what an answer says, with the slice afterwards; a refusal reports 0 words and 0 regions, and nothing is counted
+abbrev pub table_counting : Result Counted Refusal → ListOf ℤ → TableCounting
+table_counting (Ok c) slice = record { verdict = passed; words = c.words; regions = c.regions; tally = c.tally; slice = slice }
+table_counting (Err r) slice = record { verdict = count_refusal r; words = 0; regions = 0; tally = no_tally; slice = slice }

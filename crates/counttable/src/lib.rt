@@ -2,98 +2,111 @@
 #![tactic(auto)]
 
 ghost use Rattle.std.specs.Prelude.{◌≡◌};
-ghost use Rattle.counter.specs.Counting.{no_tally};
+ghost use Rattle.counttable.specs.declared.Refusal.TheVariants.{Table, Columns, List};
 ghost use Rattle.tables.specs.TableCount.{count_table_of};
 ghost use Rattle.tables.specs.Demand.{KeepsDemand3};
-ghost use Rattle.counttable.specs.Answers.{table_counting};
-ghost use Rattle.counttable.specs.Inner.Ragged.{ragged, wrong, list_refused};
+ghost use Rattle.counttable.specs.Answers.{table_counting, count_refusal};
+ghost use Rattle.counttable.specs.Inner.Ragged.{ragged};
 
-use compiler::{Acceptance, Compiled, compile, table_verdict};
+use compiler::{compile, table_verdict};
+use counter::Tally;
 use counter::counting::count;
-use counter::{Tally, no_tally};
 use gatefields::fields::name_count;
-use heads::{Columns, head_line, test_columns};
+use heads::{WrongColumns, head_line, test_columns};
+use plans::refusals::Numbered;
 
-// What counting by a table answers: the words and regions of the plan that was written and counted by, or one refusal.
+// What counting by a table answers: the words and regions of the plan that was written and counted by, and the tally.
 #[derive(Clone, Copy)]
-pub enum Outcome {
-    Counted { words: usize, regions: usize },
-    // 1 to 18
-    TableRefused(compiler::Refusal),
-    // 31
-    WrongColumns { field: usize },
-    // 21 to 23
-    CountRefused(plans::Refusal),
-}
-
-// The tally is all zeros where there is a refusal.
-#[derive(Clone, Copy)]
-pub struct TableCount {
-    pub outcome: Outcome,
+pub struct Counted {
+    pub words: usize,
+    pub regions: usize,
     pub tally: Tally,
 }
 
-// Nothing is counted.
-fn uncounted(outcome: Outcome) -> TableCount
-    ensures { (result.outcome ≡ outcome) × (result.tally ≡ no_tally) }
-{
-    let tally = no_tally();
-    TableCount { outcome, tally }
+// Why nothing is counted: the table is refused (1 to 18), or the list's column line (31), or the list (21 to 23).
+#[derive(Clone, Copy, Debug, PartialEq, Eq)]
+pub enum Refusal {
+    Table(compiler::Refusal),
+    Columns(WrongColumns),
+    List(plans::Refusal),
+}
+
+impl From<compiler::Refusal> for Refusal {
+    ghost from_gives = { λ r e. e ≡ Table r };
+
+    fn from(r: compiler::Refusal) -> Refusal {
+        Refusal::Table(r)
+    }
+}
+
+impl From<WrongColumns> for Refusal {
+    ghost from_gives = { λ r e. e ≡ Columns r };
+
+    fn from(r: WrongColumns) -> Refusal {
+        Refusal::Columns(r)
+    }
+}
+
+impl From<plans::Refusal> for Refusal {
+    ghost from_gives = { λ r e. e ≡ List r };
+
+    fn from(r: plans::Refusal) -> Refusal {
+        Refusal::List(r)
+    }
+}
+
+impl Numbered for Refusal {
+    ghost verdict = { count_refusal };
+
+    fn number(self) -> u64 {
+        match self {
+            Refusal::Table(r) => r.number(),
+            Refusal::Columns(r) => r.number(),
+            Refusal::List(r) => r.number(),
+        }
+    }
+
+    fn place(self) -> u64 {
+        match self {
+            Refusal::Table(r) => r.place(),
+            Refusal::Columns(r) => r.place(),
+            Refusal::List(r) => r.place(),
+        }
+    }
 }
 
 // Whether m values are no complete events of n values.
 fn is_ragged(n: usize, m: usize) -> bool
     ensures { result ≡ ragged n m }
 {
-    if n == 0 { false } else { m % n != 0 }
-}
-
-// Whether a column line was found wrong.
-fn is_wrong(tested: Columns) -> bool
-    ensures { result ≡ wrong tested }
-{
-    match tested {
-        Columns::Wrong { field: _ } => true,
-        Columns::Right => false,
-    }
-}
-
-// What is refused of a list of m values, by a table that is accepted: its column line, or that they are no complete events.
-fn refused_list(tested: Columns, m: usize) -> Outcome
-    ensures { result ≡ list_refused tested m }
-{
-    match tested {
-        Columns::Wrong { field } => Outcome::WrongColumns { field },
-        Columns::Right => Outcome::CountRefused(plans::Refusal::Ragged { length: m }),
-    }
+    n != 0 && m % n != 0
 }
 
 // Compiles a table into a slice, then checks and counts by exactly the words that compiling reported; `columns` is the list's column line, without its
 // LF. The slice is written only where nothing is refused: a wrong column line, or a list that is no whole number of events, is seen before.
-pub fn count_table(table: &[u8], columns: &[u8], plan: &mut [i32], events: &[i32]) -> TableCount
+pub fn count_table(
+    table: &[u8],
+    columns: &[u8],
+    plan: &mut [i32],
+    events: &[i32],
+) -> Result<Counted, Refusal>
     ensures plan_after { table_counting result plan.new
         ≡ count_table_of table.now columns.now plan.old events.now }
     ensures keeps_demand3 { KeepsDemand3 table.now columns.now plan.old events.now (table_counting result plan.new) }
 {
     let tested = test_columns(table, columns);
-    let ragged = is_ragged(name_count(head_line(table)), events.len());
-    if is_wrong(tested) | ragged {
-        let verdict = table_verdict(table, plan.len());
-        return match verdict {
-            Acceptance::Accepted => uncounted(refused_list(tested, events.len())),
-            Acceptance::Refused(r) => uncounted(Outcome::TableRefused(r)),
-        };
+    if tested.is_err() || is_ragged(name_count(head_line(table)), events.len()) {
+        table_verdict(table, plan.len())?;
+        tested?;
+        return Err(Refusal::List(plans::Refusal::Ragged {
+            length: events.len(),
+        }));
     }
-    let compiled = compile(table, plan);
-    match compiled {
-        Compiled::Written { words, regions } => {
-            let counted = count(&plan[..words], events);
-            let tally = counted.tally;
-            TableCount {
-                outcome: Outcome::Counted { words, regions },
-                tally,
-            }
-        }
-        Compiled::Refused(r) => uncounted(Outcome::TableRefused(r)),
-    }
+    let written = compile(table, plan)?;
+    let tally = count(&plan[..written.words], events)?;
+    Ok(Counted {
+        words: written.words,
+        regions: written.regions,
+        tally,
+    })
 }

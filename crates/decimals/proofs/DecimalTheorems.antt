@@ -13,9 +13,10 @@ use lib.Signed.{le_z}
 use borrow.Author.Tests.{ltb-true, ltb-false, leb-true, eqb-true, eqb-false, lt-ltb, le-ltb, ne_eqb, not-true}
 use Rattle.text.specs.Bytes.{bytes, same, every}
 use Rattle.text.specs.Numbers.{is_digit, is_negative, unsigned, is_positive, is_number, digits_value, signed, number_value, clamp_to}
-use Rattle.decimals.specs.Decimals.{point_at, has_point, before_point, after_point, unsigned_thousandths, thousandths, is_whole, is_one_to_three, is_minus_zero, is_decimal}
+use Rattle.decimals.specs.Decimals.{point_at, has_point, before_point, after_point, unsigned_thousandths, thousandths}
+use Rattle.decimals.specs.Decimals.{is_whole, is_one_to_three, is_minus_zero, is_decimal}
 use Rattle.decimals.specs.Inner.Kept.{read_decimal}
-use Rattle.decimals.specs.declared.Decimal.TheVariants.{Bad, Thousandths}
+use Rattle.std.specs.Prelude.{Some, None}
 use Rattle.text.proofs.TestLaws.{true≢false, and_left, and_right, and_false, or_true, passed_or_failed, leb_iff}
 use Rattle.text.proofs.BytesLaws.{rest_cons, before-found, same_eq}
 use Rattle.decimals.proofs.DecimalLaws.{after_none}
@@ -430,8 +431,8 @@ decimal-values = refl
 -- what is read
 pub decimals-read :
     map (λ s. read_decimal (bytes s)) ("-0.5" ∷ "-0.0" ∷ "2000000" ∷ "2147483.647" ∷ "2147483.648" ∷ "-1234567890123456789012345678901234567890.1" ∷ [])
-    ≡ Thousandths (negsuc 499) ∷ Bad ∷ Thousandths (pos 2000000000) ∷ Thousandths (pos 2147483647) ∷ Thousandths (pos 2147483647)
-    ∷ Thousandths (negsuc 2147483646)
+    ≡ Some (negsuc 499) ∷ None ∷ Some (pos 2000000000) ∷ Some (pos 2147483647) ∷ Some (pos 2147483647)
+    ∷ Some (negsuc 2147483646)
     ∷ []
 unfolding read_decimal clamp_to thousandths is_decimal has_point before_point after_point unsigned_thousandths is_whole is_one_to_three is_minus_zero is_number
     is_positive is_negative unsigned same

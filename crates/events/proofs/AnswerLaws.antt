@@ -3,13 +3,14 @@ use mathlib.Core.Path.{◌≡◌, refl, sym, ◌∙◌, ap}
 use mathlib.Core.Bool.{Bool, true, false, cond}
 use mathlib.Core.Logic.{◌⊎◌, inl, inr}
 use mathlib.Core.List.{List, [], ◌∷◌, map, flat_map}
-use Prim.Native.Nat.{ℕ, ◌+◌, ◌≤◌, ◌<◌}
+use Prim.Native.Nat.{ℕ, ◌+◌, ◌*◌, ◌≤◌, ◌<◌}
 use native.Mathlib.Nat.{zero-add}
 use native.Mathlib.Omega.{arith}
 use lib.Dec.{eqb}
 use lib.IntN.{ℤ}
-use lib.ListN.{length, drop, length-map}
+use lib.ListN.{length, drop, length-map, length-drop}
 use borrow.Author.Tests.{lt-ltb, le-ltb, le-leb, lt-leb}
+use Rattle.std.specs.Prelude.{Option, Some, None, Result, Ok, Err}
 use Rattle.text.specs.Bytes.{every, before}
 use Rattle.text.specs.Inner.Places.{find_from}
 use Rattle.text.specs.Numbers.{clamp}
@@ -20,13 +21,13 @@ use Rattle.text.proofs.LinesLaws.{lines_cut, lines_end}
 use Rattle.text.proofs.OutputLaws.{over-length}
 use Rattle.events.specs.Parting.{table_lines, has_events, events_ended, event_part}
 use Rattle.events.specs.Listing.{list, ragged, read_lines, is_event, is_good, bad_line, ragged_line, values, list_part, events_of}
-use Rattle.events.specs.Inner.Answers.{parted_of, listed, answer_of, values_kept}
-use Rattle.events.proofs.ListingLaws.{values-kept}
-use Rattle.events.proofs.PartingLaws.{events_no_part}
+use Rattle.events.specs.Inner.Answers.{parted_of, above_zero, listed, answer_of, values_kept}
+use Rattle.events.proofs.ListingLaws.{above-some, above-none, above-is, bad_line_le, values-kept}
+use Rattle.events.proofs.PartingLaws.{events_no_part, table_lines_le, line-there, line-missing, start-there, start-missing, part-is}
 use Rattle.events.proofs.BadLine.{none-bad}
 use Rattle.events.specs.declared.parting.Parted.{Parted}
-use Rattle.events.specs.declared.listing.Answer.{Answer}
-use Rattle.events.specs.declared.listing.Answer.TheVariants.{Values, Ragged, Short}
+use Rattle.events.specs.declared.listing.ListRefusal.{ListRefusal}
+use Rattle.events.specs.declared.listing.ListRefusal.TheVariants.{Ragged, Short}
 
 -- ── The lowest bad line of an input ──
 
@@ -138,57 +139,75 @@ module _ (headed : Bool) (n : ℕ) (s : List ℕ) where
 -- ── What the parts of the input show ──
 
 module _ (several headed : Bool) (n : ℕ) (s : List ℕ) {o : Parted} (p : o ≡ parted_of s) where
-  found-is : has_events s ≡ o.found
-  unfolding parted_of
-  found-is = sym (ap (λ (q : Parted). q.found) p)
+  -- r is the lowest bad line, if there is one
+  abbrev Lowest : Option ℕ → Type 0
+  Lowest r = r ≡ above_zero (ragged_line several headed n s)
 
-  ended_is : events_ended s ≡ o.ended
-  unfolding parted_of
-  ended_is = sym (ap (λ (q : Parted). q.ended) p)
+  lowest-is : {k m : ℕ} → ragged_line several headed n s ≡ m → m ≡ k → 0 < k → Lowest (Some k)
+  lowest-is e f l = sym (rw (e, f) (above-some _ l))
 
-  line-is : table_lines s + 1 ≡ o.line
-  unfolding parted_of
-  line-is = sym (ap (λ (q : Parted). q.line) p)
+  pub line-none : o.line ≡ None → Lowest None
+  line-none f = rw (ragged-none several headed n s (line-missing s p f))
 
-  pub part-is : event_part s ≡ drop o.start s
-  unfolding parted_of event_part
-  part-is = sym (ap (λ (q : Parted). drop q.start s) p)
+  module _ {line : ℕ} (f : o.line ≡ Some line) where
+    pub line_open : o.start ≡ None → Lowest (Some line)
+    line_open g =
+        let l = line-there s p f in
+        lowest-is (ragged_open several headed n s l.0 (start-missing s p g)) l.1 (omega (arith, l.1))
 
-  pub line-none : o.found ≡ false → 0 ≡ ragged_line several headed n s
-  line-none f = sym (ragged-none several headed n s (found-is ∙ f))
+    module _ {a : ℕ} (g : o.start ≡ Some a) {part : List ℕ} (h : part ≡ drop a s) {r : Option ℕ} (i : r ≡ above_zero (bad_line several headed n part)) where
+      bad-is : above_zero (bad_line several headed n (event_part s)) ≡ r
+      bad-is = rw ((start-there s p g).1, ← h) (sym i)
 
-  module _ (f : o.found ≡ true) where
-    pub line_open : o.ended ≡ false → o.line ≡ ragged_line several headed n s
-    line_open g = sym (ragged_open several headed n s (found-is ∙ f) (ended_is ∙ g) ∙ line-is)
+      pub line-behind : {b : ℕ} → r ≡ Some b → Lowest (Some (line + b))
+      line-behind e =
+          let l = line-there s p f in
+          let k = above-is _ (bad-is ∙ e) in
+          lowest-is (ragged-behind several headed n s l.0 (start-there s p g).0 k.1) (omega (arith, l.1, k.0)) (omega (arith, k.0, k.1))
 
-    module _ (g : o.ended ≡ true) {part : List ℕ} (h : part ≡ drop o.start s) {b : ℕ} (i : b ≡ bad_line several headed n part) where
-      bad-is : bad_line several headed n (event_part s) ≡ b
-      bad-is = rw (part-is, ← h) (sym i)
+      -- so it is no longer than the input is
+      pub line_fits : {b : ℕ} → r ≡ Some b → line + b ≤ 2 * length s + 1
+      unfolding event_part
+      line_fits e =
+          let k = above-is _ (sym i ∙ e) in
+          omega (
+            arith,
+            (line-there s p f).1,
+            table_lines_le s,
+            k.0,
+            bad_line_le several headed n part,
+            ap length h,
+            length-drop a s,
+          )
 
-      pub line-behind : 0 < b → o.line + b ≡ ragged_line several headed n s
-      line-behind l = sym (ragged-behind several headed n s (found-is ∙ f) (ended_is ∙ g) (omega (arith, bad-is)) ∙ rw (line-is, bad-is))
-
-      pub line-nowhere : b ≤ 0 → 0 ≡ ragged_line several headed n s
-      line-nowhere l = sym (ragged-nowhere several headed n s (found-is ∙ f) (ended_is ∙ g) (omega (arith, bad-is)))
+      pub line-nowhere : r ≡ None → Lowest None
+      line-nowhere e =
+          let z = above-none _ (bad-is ∙ e) in
+          rw (ragged-nowhere several headed n s (line-there s p f).0 (start-there s p g).0 (omega (arith, z)))
 
 -- ── The answer, and the list x after it ──
 
 -- r is the answer, and d became x
-abbrev Answered : Bool → ℕ → List ℕ → List ℤ → Answer → List ℤ → Type 0
+abbrev Answered : Bool → ℕ → List ℕ → List ℤ → Result ℕ ListRefusal → List ℤ → Type 0
 Answered headed n s d r x = (r ≡ answer_of (events_of headed n s) (length d)) × (x ≡ over (listed (events_of headed n s)) d)
 
-module _ (headed : Bool) (n : ℕ) (s : List ℕ) (d : List ℤ) {line : ℕ} (i : line ≡ ragged_line false headed n s) where
-  pub answer-ragged : 0 < line → Answered headed n s d (Ragged line) d
+module _ (headed : Bool) (n : ℕ) (s : List ℕ) (d : List ℤ) {r : Option ℕ} (i : r ≡ above_zero (ragged_line false headed n s)) where
+  pub answer-ragged : {line : ℕ} → r ≡ Some line → Answered headed n s d (Err (Ragged line)) d
   unfolding over
-  answer-ragged l = rw (events-bad headed n s (omega (arith, i)), ← i) (refl, refl)
+  answer-ragged e =
+      let l = above-is _ (sym i ∙ e) in
+      rw (events-bad headed n s l.1, l.0) (refl, refl)
 
-  module _ (l : line ≤ 0) {o : Parted} (p : o ≡ parted_of s) {behind part : List ℕ} (h : behind ≡ drop o.start s) (g : part ≡ list_part headed behind)
+  module _ (e : r ≡ None) {o : Parted} (p : o ≡ parted_of s) {behind part : List ℕ} (h : behind ≡ drop (o.table + 7) s) (g : part ≡ list_part headed behind)
       {m : ℕ} {x : List ℤ} (k : m ≡ length (values_kept part)) (w : x ≡ over (values_kept part) d) where
+    none-bad-line : ragged_line false headed n s ≡ 0
+    none-bad-line = above-none _ (sym i ∙ e)
+
     list-is : list_part headed (event_part s) ≡ part
-    list-is = rw (part-is false headed n s p, ← h) (sym g)
+    list-is = rw (part-is s p, ← h) (sym g)
 
     kept_are : values_kept part ≡ map clamp (values part)
-    kept_are = values-kept n part (rw list-is at (list-good headed n s (omega (arith, i))))
+    kept_are = values-kept n part (rw list-is at (list-good headed n s none-bad-line))
 
     count-is : m ≡ length (values part)
     count-is = k ∙ ap length kept_are ∙ length-map (values part) clamp
@@ -197,13 +216,13 @@ module _ (headed : Bool) (n : ℕ) (s : List ℕ) (d : List ℤ) {line : ℕ} (i
     written_is = w ∙ ap (λ (v : List ℤ). over v d) kept_are
 
     listed-is : events_of headed n s ≡ list (values part)
-    listed-is = events-good headed n s (omega (arith, i)) ∙ rw list-is
+    listed-is = events-good headed n s (omega (arith, none-bad-line)) ∙ rw list-is
 
     room-is : length d ≡ length x
     room-is = sym (ap length w ∙ over-length (values_kept part) d)
 
-    pub answer-short : length x < m → Answered headed n s d Short x
+    pub answer-short : length x < m → Answered headed n s d (Err Short) x
     answer-short q = rw (listed-is, ← count-is, room-is, lt-leb m (length x) q) (refl, written_is)
 
-    pub answer-listed : m ≤ length x → Answered headed n s d (Values m) x
+    pub answer-listed : m ≤ length x → Answered headed n s d (Ok m) x
     answer-listed q = rw (listed-is, ← count-is, room-is, le-leb m (length x) q) (refl, written_is)

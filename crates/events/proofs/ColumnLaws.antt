@@ -9,6 +9,8 @@ use native.Mathlib.Omega.{arith}
 use lib.Dec.{ltb, eqb}
 use lib.ListN.{length, drop}
 use borrow.Author.Tests.{lt-ltb, le-ltb}
+use Rattle.std.specs.Prelude.{Some, None}
+use Rattle.text.proofs.TestLaws.{and_false}
 use Rattle.text.specs.Lines.{push, parts, lines}
 use Rattle.text.specs.Inner.Places.{find_from, line_from}
 use Rattle.text.proofs.LinesLaws.{find_inside, parts-cut-at, parts-last-at}
@@ -17,7 +19,7 @@ use Rattle.events.specs.Listing.{opening, event, opens, read_lines, columns_read
 use Rattle.events.specs.Inner.Answers.{parted_of}
 use Rattle.events.specs.Inner.Columns.{columns_from, pieces_from}
 use Rattle.events.specs.declared.parting.Parted.{Parted}
-use Rattle.events.proofs.AnswerLaws.{part-is}
+use Rattle.events.proofs.PartingLaws.{ended-there, start-there, start-missing}
 
 -- ── Lines with what stands behind the last LF ──
 
@@ -98,17 +100,19 @@ module _ (several : Bool) (input : List ℕ) where
   columns-not h = rw h
 
 -- by what `split` answers
-module _ (several : Bool) (input : List ℕ) {o : Parted} (p : o ≡ parted_of input) where
-  opened-is : (has_events input && events_ended input) ≡ (o.found && o.ended)
-  unfolding parted_of
-  opened-is = rw p
+module _ (input : List ℕ) {o : Parted} (p : o ≡ parted_of input) where
+  pub opened-is : {a : ℕ} → o.start ≡ Some a → (has_events input && events_ended input) ≡ true
+  opened-is f = let e = (start-there input p f).0 in rw (e, ended-there input e)
 
-  pub columns-split : (o.found && o.ended) ≡ true → {part : List ℕ} → part ≡ drop o.start input
-      → column_lines several input ≡ columns_from several true part 0
-  columns-split h f = columns-opened several input (opened-is ∙ h) ∙ rw (part-is several true 0 input p, ← f)
+  pub unopened-is : o.start ≡ None → (has_events input && events_ended input) ≡ false
+  unopened-is f = rw (start-missing input p f) (and_false (has_events input))
 
-  pub columns-unsplit : (o.found && o.ended) ≡ false → column_lines several input ≡ []
-  columns-unsplit h = columns-not several input (opened-is ∙ h)
+  module _ (several : Bool) where
+    pub columns-split : {a : ℕ} → o.start ≡ Some a → {part : List ℕ} → part ≡ drop a input → column_lines several input ≡ columns_from several true part 0
+    columns-split f h = columns-opened several input (opened-is f) ∙ rw ((start-there input p f).1, ← h)
+
+    pub columns-unsplit : o.start ≡ None → column_lines several input ≡ []
+    columns-unsplit f = columns-not several input (unopened-is f)
 
 -- one list has one, the line behind `events`
 pub columns-one : (input : List ℕ) → (has_events input && events_ended input) ≡ true → column_lines false input ≡ line_from (event_part input) 0 ∷ []

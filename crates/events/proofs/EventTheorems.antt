@@ -2,30 +2,34 @@
 use mathlib.Core.Path.{◌≡◌, refl, sym, ◌∙◌, ap}
 use mathlib.Core.Bool.{Bool, true, false, cond}
 use mathlib.Core.Logic.{◌⊎◌, inl, inr, ⊎_elim}
-use mathlib.Core.List.{List, [], ◌∷◌, ◌++◌, flat_map}
+use mathlib.Core.List.{List, [], ◌∷◌, ◌++◌, map, flat_map}
 use Prim.Native.Nat.{ℕ, zero, suc, ◌+◌, ◌-◌, ◌*◌, ◌≤◌, ◌<◌}
 use native.Mathlib.Nat.{zero-mul, suc-mul}
 use native.Mathlib.Omega.{arith}
-use lib.Dec.{eqb}
+use lib.Dec.{eqb, leb}
 use lib.IntN.{ℤ, pos, negsuc}
-use lib.ListN.{length, get_or, take, drop, take-append-drop, length-append, length-drop, get_or-eq_default}
-use lib.Seq.{take_all, drop-drop}
-use borrow.Author.Tests.{ltb-true, le-leb, eqb-true}
+use lib.ListN.{length, get_or, take, drop, take-append-drop, length-append, length-drop, get_or-eq_default, length-map}
+use lib.Seq.{take_all, drop-drop, take-append_seam}
+use borrow.Author.Tests.{ltb-true, leb-true, le-leb, eqb-true}
 use Rattle.text.specs.Bytes.{bytes, same, every}
-use Rattle.text.specs.Numbers.{is_negative, unsigned, is_positive, is_number, number_value}
+use Rattle.text.specs.Numbers.{clamp, is_negative, unsigned, is_positive, is_number, number_value}
 use Rattle.text.specs.Inner.Kept.{kept, read_number}
 use Rattle.integers.specs.Range.{in_range}
 use Rattle.text.specs.Lines.{fields, lines, unlines, ends_in_lf, unfields}
 use Rattle.text.specs.Inner.Places.{line_starts, find_from, line_from}
-use Rattle.text.proofs.TestLaws.{true≢false, and_left, and_right, lt_or_ge}
+use Rattle.text.proofs.TestLaws.{true≢false, and_left, and_right, lt_or_ge, passed_or_failed}
 use Rattle.text.proofs.BytesLaws.{rest_cons, before-found, same_eq}
 use Rattle.text.proofs.LinesLaws.{lines_cut, line-length, fields-some, line_starts-length, start_inside, lines-from_start, line-at_start}
+use Rattle.text.specs.Output.{over}
+use Rattle.text.proofs.OutputLaws.{over-fits}
 use Rattle.text.proofs.NumbersLaws.{within-event, clamp-within, read-value}
 use Rattle.text.proofs.TextTheorems.{unlines-lines, unfields-fields}
 use Rattle.events.specs.Parting.{table_lines, table_end, has_events, events_ended, table_part, event_part}
 use Rattle.events.specs.Listing.{Events, list, ragged, is_event, ragged_line, line_values, values, list_part, events_of}
-use Rattle.events.specs.Inner.Answers.{answer_of}
-use Rattle.events.specs.declared.listing.Answer.TheVariants.{Values, Short}
+use Rattle.events.specs.Inner.Answers.{listed, answer_of}
+use Rattle.events.specs.declared.listing.ListRefusal.{ListRefusal}
+use Rattle.events.specs.declared.listing.ListRefusal.TheVariants.{Ragged, Short}
+use Rattle.std.specs.Prelude.{Result, Ok, Err}
 use Rattle.events.proofs.ListingLaws.{line_values-length}
 use Rattle.events.proofs.PartingLaws.{end_at, end_is}
 use Rattle.events.proofs.AnswerLaws.{behind-good, list-lines, list-good, events-bad, events-good}
@@ -197,16 +201,57 @@ module _ (headed : Bool) (n : ℕ) (s : List ℕ) (vs : List ℤ) (e : events_of
       all-bytes (inr q) = omega (arith, ap length (unlines-lines (event_part s) q))
 
 -- so the answer is never Short where the list has room for half as many values as the input has bytes
-pub never_short : (headed : Bool) (n : ℕ) (s : List ℕ) (room : ℕ) → length s ≤ 2 * room → answer_of (events_of headed n s) room ≡ Short → ⊥
+pub never_short : (headed : Bool) (n : ℕ) (s : List ℕ) (room : ℕ) → length s ≤ 2 * room → answer_of (events_of headed n s) room ≡ Err Short → ⊥
 never_short headed n s room h e = go (events_of headed n s) refl e
   where
-    go : (r : Events) → events_of headed n s ≡ r → answer_of r room ≡ Short → ⊥
+    go : (r : Events) → events_of headed n s ≡ r → answer_of r room ≡ Err Short → ⊥
     go (list vs) q f =
         let l : length vs ≤ room = omega (arith, values-few headed n s vs q) in
-        let g : Values (length vs) ≡ Short = rw (le-leb (length vs) room l) at f in
-        let z : ◌≡◌ {A = ℕ} 0 1 = cc in
-        omega arith
-    go (ragged line) q f = let z : ◌≡◌ {A = ℕ} 0 1 = cc in omega arith
+        let g : ◌≡◌ {A = Result ℕ ListRefusal} (Ok (length vs)) (Err Short) = rw (le-leb (length vs) room l) at f in
+        cc
+    go (ragged line) q f = cc
+
+-- ── What reading them shows ──
+
+answered-ragged : (es : Events) (room line : ℕ) → answer_of es room ≡ Err (Ragged line) → es ≡ ragged line
+answered-ragged (list vs) room line e = absurd (go (leb (length vs) room) e)
+  where
+    go : (b : Bool) → ◌≡◌ {A = Result ℕ ListRefusal} (cond b (Ok (length vs)) (Err Short)) (Err (Ragged line)) → ⊥
+    go true f = cc
+    go false f = cc
+answered-ragged (ragged l) room line e = cc
+
+answered-values : (es : Events) (room k : ℕ) → answer_of es room ≡ Ok k → (vs : List ℤ) × (es ≡ list vs) × (k ≡ length vs) × (k ≤ room)
+answered-values (list vs) room k e = go (passed_or_failed (leb (length vs) room))
+  where
+    go : (leb (length vs) room ≡ true) ⊎ (leb (length vs) room ≡ false) → (ws : List ℤ) × (list vs ≡ list ws) × (k ≡ length ws) × (k ≤ room)
+    go (inl t) =
+        let f : ◌≡◌ {A = Result ℕ ListRefusal} (Ok (length vs)) (Ok k) = rw t at e in
+        let g : k ≡ length vs = cc in
+        let h : length vs ≤ room = leb-true (length vs) room t in
+        (vs, refl, g, omega arith)
+    go (inr t) = absurd (let f : ◌≡◌ {A = Result ℕ ListRefusal} (Err Short) (Ok k) = rw t at e in cc)
+answered-values (ragged l) room k e = absurd cc
+
+-- what was written over the beginning of a list that has room for it
+pub written-taken : {A : Type 0} (q d : List A) {x : List A} {m : ℕ} → m ≡ length q → x ≡ over q d → length q ≤ length d → take m x ≡ q
+written-taken q d e f h = rw (e, f, over-fits q d h) (take-append_seam q (drop (length q) d))
+
+-- read over the beginning of a list with room for half as many values as the input has bytes, which became x
+module _ (headed : Bool) (n : ℕ) (s : List ℕ) (d : List ℤ) {r : Result ℕ ListRefusal} (e : r ≡ answer_of (events_of headed n s) (length d)) where
+  -- all values, each as it is kept
+  pub read-values : {k : ℕ} → r ≡ Ok k → {x : List ℤ} → x ≡ over (listed (events_of headed n s)) d
+      → (vs : List ℤ) × (events_of headed n s ≡ list vs) × (take k x ≡ map clamp vs) × (k ≤ length d)
+  read-values q f =
+      let v = answered-values (events_of headed n s) (length d) _ (sym e ∙ q) in
+      let l = length-map v.0 clamp in
+      (v.0, v.1, written-taken (map clamp v.0) d (omega (arith, v.2)) (rw v.1 at f) (omega (arith, v.2, v.3)), v.3)
+
+  pub read-ragged : {line : ℕ} → r ≡ Err (Ragged line) → events_of headed n s ≡ ragged line
+  read-ragged q = answered-ragged (events_of headed n s) (length d) _ (sym e ∙ q)
+
+  pub read_short : length s ≤ 2 * length d → r ≡ Err Short → ⊥
+  read_short h q = never_short headed n s (length d) h (sym e ∙ q)
 
 -- ── What is kept of a number ──
 

@@ -1,14 +1,19 @@
 -- Laws of specs/Listing.
 use mathlib.Core.Path.{◌≡◌, refl, sym, ◌∙◌, ap, ap₂}
 use mathlib.Core.Bool.{Bool, true, false, not, cond, ◌&&◌, ◌||◌}
+use mathlib.Core.Logic.{⊎_elim}
 use mathlib.Core.List.{List, [], ◌∷◌, ◌++◌, map, map-append, flat_map}
-use Prim.Native.Nat.{ℕ, suc, ◌+◌, ◌-◌, ◌≤◌, ◌<◌}
+use Prim.Native.Nat.{ℕ, zero, suc, ◌+◌, ◌-◌, ◌≤◌, ◌<◌}
+use native.Mathlib.Nat.{zero-add}
 use native.Mathlib.Omega.{arith}
-use lib.Dec.{eqb}
-use lib.IntN.{ℤ}
+use lib.Dec.{ltb, eqb}
+use lib.IntN.{ℤ, pos}
 use lib.ListN.{length, get_or, set, take, drop, length-append, length-drop, length-map, get_or-map}
 use lib.Seq.{take_all, length-take-le}
 use borrow.Author.Tests.{lt-ltb, le-ltb, eq-eqb, ne_eqb}
+use Rattle.std.proofs.Common.{Option, Some, None, unwrap_or, add-zero}
+use Rattle.std.specs.Bool.{then_some}
+use Rattle.std.specs.List.{list_all, range_with_len}
 use Rattle.text.specs.Bytes.{every}
 use Rattle.text.specs.Inner.Counts.{occurrences}
 use Rattle.text.specs.Numbers.{is_number, number_value, clamp}
@@ -17,32 +22,61 @@ use Rattle.text.specs.Lines.{fields, lines, ends_in_lf}
 use Rattle.text.specs.Inner.Places.{find_from, line_from}
 use Rattle.text.specs.Output.{over}
 use Rattle.text.specs.Inner.Writing.{over_from}
-use Rattle.text.proofs.TestLaws.{and_left, and_right, and_false}
-use Rattle.text.proofs.BytesLaws.{every-fails, every_end}
+use Rattle.text.proofs.TestLaws.{and_left, and_right, and_false, lt_or_ge}
 use Rattle.text.proofs.NumbersLaws.{read-value}
 use Rattle.text.proofs.OutputLaws.{over-take}
 use Rattle.text.proofs.LinesLaws.{find_from_lem, find_inside, lines_cut, lines_end, line-length}
+use Rattle.events.proofs.PartingLaws.{lines_le}
 use Rattle.text.proofs.TextTheorems.{fields-count}
 use Rattle.events.specs.Listing.{Line, columns, opening, event, opens, read_lines, is_event, is_good, good_lines, bad_line, line_values, values}
-use Rattle.events.specs.Inner.Answers.{line_kept, values_kept}
+use Rattle.events.specs.Inner.Answers.{above_zero, line_kept, values_kept}
 use Rattle.text.proofs.WritingLaws.{over-from, take_more, drop_more}
+
+-- ── A number counted from 1, where 0 stands for none ──
+
+pub above-some : (n : ℕ) → 0 < n → above_zero n ≡ Some n
+above-some zero h = absurd (omega arith)
+above-some (suc n) h = refl
+
+pub above-none : (n : ℕ) → above_zero n ≡ None → n ≡ 0
+above-none zero e = refl
+above-none (suc n) e = absurd cc
+
+pub above-is : (n : ℕ) {k : ℕ} → above_zero n ≡ Some k → (n ≡ k) × (0 < n)
+above-is zero e = absurd cc
+above-is (suc n) e = (cc, omega arith)
+
+-- of k lines the last, where it is without LF
+pub last-open : (ended : Bool) (k : ℕ) → then_some (ltb 0 k && not ended) k ≡ above_zero (cond ended 0 k)
+last-open true k = rw (and_false (ltb 0 k))
+last-open false zero = refl
+last-open false (suc k) = rw (lt-ltb 0 (suc k) (omega arith))
 
 -- ── An event ──
 
-module _ (n : ℕ) (l : List ℕ) where
-  pub event_miscounted : (length (fields l) ≡ n → ⊥) → false ≡ is_event n l
+-- f at the places of a list
+pub every-placed : {A : Type 0} (f : A → Bool) (d : A) (s : List A) → list_all (λ k. f (get_or s k d)) (range_with_len 0 (length s)) ≡ every f s
+every-placed {A = A} f d s = go 0 s (λ i. rw zero-add)
+  where
+    shift : (a i : ℕ) → a + suc i ≡ a + 1 + i
+    shift a i = omega arith
+
+    go : (a : ℕ) (r : List A) → ((i : ℕ) → get_or r i d ≡ get_or s (a + i) d) → list_all (λ k. f (get_or s k d)) (range_with_len a (length r)) ≡ every f r
+    go a [] h = refl
+    go a (x ∷ r) h =
+        let e : get_or s a d ≡ x = sym (h 0 ∙ rw (add-zero a)) in
+        rw e (ap (λ t. f x && t) (go (a + 1) r (λ i. h (suc i) ∙ rw (shift a i))))
+
+module _ (n : ℕ) (l : List ℕ) {m : ℕ} (c : m ≡ length (fields l)) where
+  pub event_miscounted : (m ≡ n → ⊥) → eqb m n ≡ is_event n l
   unfolding is_event
-  event_miscounted h = rw (ne_eqb (length (fields l)) n h)
+  event_miscounted h = let f : eqb m n ≡ false = ne_eqb m n h in f ∙ rw (← c, f)
 
-  -- the fields before field k are numbers
-  module _ (k : ℕ) (e : every is_number (fields l) ≡ every is_number (drop k (fields l))) where
-    pub event_misformed : k < length (fields l) → is_number (get_or (fields l) k []) ≡ false → false ≡ is_event n l
-    unfolding is_event
-    event_misformed h f = sym (rw (e, every-fails (fields l) k [] is_number h f) (and_false (eqb (length (fields l)) n)))
-
-    pub event-whole : n ≡ length (fields l) → length (fields l) ≤ k → true ≡ is_event n l
-    unfolding is_event
-    event-whole q h = rw (e, every_end (fields l) k is_number h, eq-eqb (length (fields l)) n (sym q))
+  pub event-counted : m ≡ n → list_all (λ k. is_number (get_or (fields l) k [])) (range_with_len 0 n) ≡ is_event n l
+  unfolding is_event
+  event-counted h =
+      let e : length (fields l) ≡ n = sym c ∙ h in
+      rw (← e, eq-eqb (length (fields l)) (length (fields l)) refl) (every-placed is_number [] (fields l))
 
 -- ── Lines as they are read ──
 
@@ -118,12 +152,13 @@ module _ (several headed : Bool) (n : ℕ) (s : List ℕ) where
             count = p.count ∙ rw (at, lines_cut s a l) (omega arith);
           }
 
-      pub bad-found : is_bad n (read_as several next (line_from s a)) ≡ true → k + 1 ≡ bad_line several headed n s
+      pub bad-found : is_bad n (read_as several next (line_from s a)) ≡ true → Some (k + 1) ≡ above_zero (bad_line several headed n s)
       unfolding bad_line good_lines
       bad-found h =
           let f : good_lines n (read_lines several headed (lines s)) ≡ k = p.good ∙ rw (first_read, h) (omega arith) in
           let c : length (lines (drop a s)) ≡ suc (length (lines (drop (find_from s a 10 + 1) s))) = ap length (lines_cut s a l) in
-          sym (rw (f, lt-ltb k (length (lines s)) (omega (arith, p.count))))
+          let e : bad_line several headed n s ≡ k + 1 = rw (f, lt-ltb k (length (lines s)) (omega (arith, p.count))) in
+          rw e (sym (above-some (k + 1) (omega arith)))
 
     module _ (l : length s ≤ a) where
       no_bad : bad_line several headed n s ≡ cond (ends_in_lf s) 0 k
@@ -133,11 +168,21 @@ module _ (several headed : Bool) (n : ℕ) (s : List ℕ) where
           let m : length (lines s) ≡ k = p.count ∙ rw (lines_end s a l) (omega arith) in
           rw (f, m, le-ltb k k (omega arith))
 
-      pub bad-none : ends_in_lf s ≡ true → 0 ≡ bad_line several headed n s
-      bad-none e = sym (no_bad ∙ rw e)
+      -- the last line, where it is without LF
+      pub bad-after : then_some (ltb 0 k && not (ends_in_lf s)) k ≡ above_zero (bad_line several headed n s)
+      bad-after = rw no_bad (last-open (ends_in_lf s) k)
 
-      pub bad_open : ends_in_lf s ≡ false → k ≡ bad_line several headed n s
-      bad_open e = sym (no_bad ∙ rw e)
+  -- it is a number of a line
+  pub bad_line_le : bad_line several headed n s ≤ length s
+  unfolding bad_line
+  bad_line_le = omega (arith, go (good_lines n (read_lines several headed (lines s))) (length (lines s)) (ends_in_lf s), lines_le s)
+    where
+      go : (g m : ℕ) (b : Bool) → cond (ltb g m) (g + 1) (cond b 0 m) ≤ m
+      go g m b = ⊎_elim (λ (l : g < m). rw (lt-ltb g m l) (omega arith)) (λ (l : m ≤ g). rw (le-ltb g m l) (late m b)) (lt_or_ge g m)
+        where
+          late : (m : ℕ) (b : Bool) → cond b 0 m ≤ m
+          late m true = omega arith
+          late m false = omega arith
 
 -- ── Values ──
 
@@ -188,11 +233,16 @@ value-at : (l : List ℕ) (k : ℕ) → get_or (line_kept l) k (kept (read_numbe
 unfolding line_kept
 value-at l k = get_or-map (λ (f : List ℕ). kept (read_number f)) (fields l) k []
 
+kept_is : (o : Option ℤ) → unwrap_or o (pos 0) ≡ kept o
+kept_is None = refl
+kept_is (Some v) = refl
+
 -- one value more of a line is written
 pub line-more : (l : List ℕ) (d : List ℤ) (k : ℕ) → k < length (fields l)
-    → set (over (take k (line_kept l)) d) k (kept (read_number (get_or (fields l) k []))) ≡ over (take (k + 1) (line_kept l)) d
+    → set (over (take k (line_kept l)) d) k (unwrap_or (read_number (get_or (fields l) k [])) (pos 0)) ≡ over (take (k + 1) (line_kept l)) d
 line-more l d k h =
-    ap (set (over (take k (line_kept l)) d) k) (sym (value-at l k)) ∙ over-take (line_kept l) d k (kept (read_number [])) (omega (arith, line_kept-length l))
+    ap (set (over (take k (line_kept l)) d) k) (kept_is (read_number (get_or (fields l) k [])) ∙ sym (value-at l k))
+    ∙ over-take (line_kept l) d k (kept (read_number [])) (omega (arith, line_kept-length l))
 
 -- the values of the lines from place a on
 abbrev pub kept_from : List ℕ → ℕ → List ℤ

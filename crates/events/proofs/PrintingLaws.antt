@@ -4,7 +4,10 @@ use mathlib.Core.List.{List, [], ◌∷◌, ◌++◌, append_assoc}
 use Prim.Native.Nat.{ℕ, zero, suc, ◌+◌}
 use native.Mathlib.Nat.{zero-add}
 use native.Mathlib.Omega.{arith}
-use lib.ListN.{length, length-append}
+use lib.ListN.{length, length-append, take, drop}
+use denote.Ref.{MutBor}
+use denote.Param.Members.{Once}
+use Rattle.std.specs.Fn.{FnOnceReturnsAtMut}
 use Rattle.text.specs.Output.{over}
 use Rattle.text.specs.Inner.Writing.{over_from}
 use Rattle.events.specs.Printing.{number_field, numbers_line, count_line}
@@ -53,3 +56,12 @@ module _ (d : List ℕ) {x₁ x₂ x₃ : List ℕ} {a b c : ℕ} (name : List �
       let v₂ = written-more name d (number_field n) w₁ w₂ in
       let v₃ = written-more (name ++ number_field n) d (number_field k) v₂ w₃ in
       rw q at (written-more ((name ++ number_field n) ++ number_field k) d (10 ∷ []) v₃ w₄)
+
+-- what a call wrote over what stands from index a on
+pub from-call : {A F : Type 0} (g : Once F (MutBor (List A) × Unit {0}) (ℕ × (MutBor (List A) × Unit {0}))) {f : F} (a : ℕ) (s d x : List A) (r : ℕ)
+    → ((y z : MutBor (List A)) (k : ℕ) → g.post f (y, tt) (k, (z, tt)) → (k ≡ length s) × (z.now ≡ over s y.now))
+    → (q : List A) × FnOnceReturnsAtMut g f (drop a d) r q × (x ≡ take a d ++ q) → (r ≡ length s) × (x ≡ over_from a s d)
+unfolding over_from
+from-call g a s d x r says (q, m, e) =
+    let w = says m.shown m.left r m.met in
+    (w.0, e ∙ rw (← m.leaves, w.1, m.shows))

@@ -1,79 +1,60 @@
 // The input parted into the table and the events.
-ghost use Rattle.std.specs.Prelude.{◌≡◌, ◌+◌, ◌≤◌, eqb, length, get_or};
+ghost use Rattle.std.specs.Prelude.{◌≡◌, ◌+◌, ◌≤◌, length};
 ghost use Rattle.events.specs.Inner.Answers.{opening_of, parted_of};
 
 use text::lines::{find, line_from};
-use text::names::same;
 
 // Where the input is parted.
 #[derive(Clone, Copy)]
 pub struct Parted {
     // the end of the table part
     pub table: usize,
-    // the line `events` is there
-    pub found: bool,
-    // it ends in LF
-    pub ended: bool,
-    // where the event lines start
-    pub start: usize,
-    // the number of the line `events`
-    pub line: usize,
+    // the number of the line `events`, if it is there
+    pub line: Option<usize>,
+    // where the event lines start, if that line ends in LF
+    pub start: Option<usize>,
 }
 
-// The line `events`: whether it is there, where it begins, and how many lines stand before it.
+// The line `events`: where it begins, or the end of the input where there is none, and its number.
 #[derive(Clone, Copy)]
 struct Opening {
-    found: bool,
     at: usize,
-    before: usize,
+    line: Option<usize>,
 }
 
 // Looks for the first line that is exactly `events`.
 fn find_events(input: &[u8]) -> Opening
-    ensures { (result ≡ opening_of input.now) × (result.at ≤ length input.now) × (result.before ≤ result.at + 1) }
+    ensures opening { result ≡ opening_of input.now }
+    ensures within { result.at ≤ length input.now }
 {
     let mut at = 0;
-    let mut before: usize = 0;
+    let mut line: usize = 1;
     while at < input.len() {
-        if same(b"events", line_from(input, at)) {
+        if line_from(input, at) == b"events".as_slice() {
             return Opening {
-                found: true,
-                at: at,
-                before: before,
+                at,
+                line: Some(line),
             };
         }
         at = find(input, at, b'\n') + 1;
-        before += 1;
+        line += 1;
     }
     Opening {
-        found: false,
         at: input.len(),
-        before: before,
+        line: None,
     }
-}
-
-// Whether an LF stands at index i.
-fn is_lf(s: &[u8], i: usize) -> bool
-    ensures { result ≡ eqb (get_or s.now i 0) 10 }
-{
-    if s.len() <= i {
-        return false;
-    }
-    s[i] == b'\n'
 }
 
 // Parts the input at the first line that is exactly `events`.
 pub fn split(input: &[u8]) -> Parted
-    ensures { (result ≡ parted_of input.now) × (result.table ≤ length input.now) × (result.line ≤ result.table + 2) }
+    ensures parted { result ≡ parted_of input.now }
+    ensures within { result.table ≤ length input.now }
 {
-    let o = find_events(input);
-    let at = o.at;
-    let ended = is_lf(input, at + 6);
+    let Opening { at, line } = find_events(input);
+    let ended = input.get(at + 6) == Some(&b'\n');
     Parted {
         table: at,
-        found: o.found,
-        ended: ended,
-        start: at + 7,
-        line: o.before + 1,
+        line,
+        start: ended.then_some(at + 7),
     }
 }

@@ -4,54 +4,23 @@
 
 ghost use Rattle.std.specs.Prelude.{◌≡◌};
 ghost use Rattle.std.proofs.lemmas.List.Edits.{sets};
-ghost use Rattle.plans.specs.Refusals.{verdict};
 ghost use Rattle.plans.specs.Form.{check_of};
 ghost use Rattle.counter.specs.Counting.{count_of};
 ghost use Rattle.gatec.specs.Answers.{check_row, count_row};
 
 use counter::counting::count;
-use plans::Checked;
 use plans::form::check;
-use plans::refusals::{number_of, place_of};
-
-// The number of what a check answers, or 0 where it passes.
-fn checked_number(a: Checked) -> u64
-    ensures { result ≡ (verdict a).number }
-{
-    match a {
-        Checked::Passed => 0,
-        Checked::Refused(r) => number_of(r),
-    }
-}
-
-fn checked_place(a: Checked) -> u64
-    ensures { result ≡ (verdict a).place }
-{
-    match a {
-        Checked::Passed => 0,
-        Checked::Refused(r) => place_of(r),
-    }
-}
+use plans::refusals::Numbered;
 
 // out: number, place.
 #[unsafe(no_mangle)]
 pub extern "C" fn gate_check(plan: &[i32], out: &mut [u64; 2])
     ensures { out.new ≡ sets out.old 0 (check_row (check_of plan.now)) }
 {
-    let form = check(plan);
-    out[0] = checked_number(form);
-    out[1] = checked_place(form);
-}
-
-// The counts, behind the four numbers before them.
-fn put_counts(counts: [u64; 64], out: &mut [u64; 69])
-    ensures { out.new ≡ sets out.old 4 counts }
-{
-    let mut i: usize = 0;
-    while i < 64 {
-        out[i + 4] = counts[i];
-        i += 1;
-    }
+    *out = match check(plan) {
+        Ok(()) => [0, 0],
+        Err(r) => [r.number(), r.place()],
+    };
 }
 
 // out: number, place, taken, spoilt, 64 counts, unclaimed. A longer row has another symbol, its length in the name, so that what was built for a
@@ -60,14 +29,17 @@ fn put_counts(counts: [u64; 64], out: &mut [u64; 69])
 pub extern "C" fn gate_count_row69(plan: &[i32], events: &[i32], out: &mut [u64; 69])
     ensures { out.new ≡ sets out.old 0 (count_row (count_of plan.now events.now)) }
 {
-    let c = count(plan, events);
-    let a = c.answer;
-    let t = c.tally;
-    let counts = t.counts;
-    out[0] = checked_number(a);
-    out[1] = checked_place(a);
-    out[2] = t.taken;
-    out[3] = t.spoilt;
-    put_counts(counts, out);
-    out[68] = t.unclaimed;
+    *out = [0; 69];
+    match count(plan, events) {
+        Ok(t) => {
+            out[2] = t.taken;
+            out[3] = t.spoilt;
+            out[4..68].copy_from_slice(&t.counts);
+            out[68] = t.unclaimed;
+        }
+        Err(r) => {
+            out[0] = r.number();
+            out[1] = r.place();
+        }
+    }
 }

@@ -6,25 +6,13 @@ ghost use Rattle.gates.specs.Inner.Regions.{combines as combines_of};
 ghost use Rattle.gates.specs.Kinds.{carries_point, kind_named, line_kind, step_kind, is_unknown, is_quad, is_star, is_none, is_parent, is_complement, operand_name, is_operand, dimension_of, value_of, thousandths_of};
 ghost use Rattle.gates.specs.declared.LineKind.TheVariants.{Ellip, DecimalEllip};
 
-use decimals::{has_point, kept as kept_thousandths, read_decimal};
+use decimals::{has_point, read_decimal};
 use gates::LineKind;
 use plans::Kind;
 use plans::form::{is_known, kind_number};
 use text::lines::{field, field_count, find_field};
 use text::names::{is_name, same};
-use text::numbers::{kept, read_number};
-
-pub fn pick(b: bool, x: usize, y: usize) -> usize
-    ensures { result ≡ cond b x y }
-{
-    if b { x } else { y }
-}
-
-pub fn minus(x: usize, y: usize) -> usize
-    ensures { result ≡ x - y }
-{
-    if x < y { 0 } else { x - y }
-}
+use text::numbers::read_number;
 
 // A kind where x is its name, or another.
 fn kind_or(x: &[u8], name: &[u8], kind: LineKind, other: LineKind) -> LineKind
@@ -80,12 +68,11 @@ pub fn step_kind(kind: LineKind) -> Kind
     ensures { result ≡ step_kind kind }
 {
     match kind {
-        LineKind::Rect => Kind::Box,
+        LineKind::Rect | LineKind::Quad => Kind::Box,
         LineKind::Poly => Kind::Polygon,
         LineKind::Ellip => Kind::Ellipse,
         LineKind::DecimalEllip => Kind::DecimalEllipse,
         LineKind::Ellip3 => Kind::Ellipsoid,
-        LineKind::Quad => Kind::Box,
         LineKind::And => Kind::And,
         LineKind::Or => Kind::Or,
         LineKind::Not => Kind::Not,
@@ -102,18 +89,7 @@ pub fn is_unknown(kind: LineKind) -> bool
 pub fn is_quad(kind: LineKind) -> bool
     ensures { result ≡ is_quad kind }
 {
-    match kind {
-        LineKind::Rect => false,
-        LineKind::Poly => false,
-        LineKind::Ellip => false,
-        LineKind::DecimalEllip => false,
-        LineKind::Ellip3 => false,
-        LineKind::Quad => true,
-        LineKind::And => false,
-        LineKind::Or => false,
-        LineKind::Not => false,
-        LineKind::Unknown => false,
-    }
+    kind == LineKind::Quad
 }
 
 // Whether the gate of a line combines operands.
@@ -147,10 +123,7 @@ pub fn is_parent(x: &[u8]) -> bool
 pub fn is_complement(x: &[u8]) -> bool
     ensures { result ≡ is_complement x.now }
 {
-    if x.len() == 0 {
-        return false;
-    }
-    x[0] == 33
+    x.first() == Some(&b'!')
 }
 
 pub fn operand_name(x: &[u8]) -> &[u8]
@@ -171,26 +144,26 @@ pub fn is_operand(x: &[u8]) -> bool
 pub fn value_of(x: &[u8]) -> i32
     ensures { result ≡ value_of x.now }
 {
-    kept(read_number(x))
+    read_number(x).unwrap_or(0)
 }
 
 // The value of a number that may have decimals, in thousandths.
 pub fn thousandths_of(x: &[u8]) -> i32
     ensures { result ≡ thousandths_of x.now }
 {
-    kept_thousandths(read_decimal(x))
+    read_decimal(x).unwrap_or(0)
 }
 
 // How many names the head line has.
 pub fn name_count(head: &[u8]) -> usize
     ensures { result ≡ length (drop 1 (fields head.now)) }
 {
-    minus(field_count(head), 1)
+    field_count(head) - 1
 }
 
 // The number of a dimension.
 pub fn dimension_of(head: &[u8], x: &[u8]) -> usize
     ensures { result ≡ dimension_of (drop 1 (fields head.now)) x.now }
 {
-    minus(find_field(head, 1, x), 1)
+    find_field(head, 1, x) - 1
 }

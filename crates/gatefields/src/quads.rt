@@ -4,24 +4,17 @@ ghost use Rattle.text.specs.Lines.{fields};
 ghost use Rattle.plans.specs.Indices.{all};
 ghost use Rattle.gates.specs.Quads.{count_digit, divider_count, divider_at, value_count, quadrants_at, quadrant_count, quadrant_at, layout_good};
 
-use crate::fields::minus;
 use text::lines::{field, field_count};
-use text::output::lesser;
 
 fn count_of(x: &[u8]) -> usize
     ensures { (result ≡ count_digit x.now) × (result ≤ 3) }
 {
-    if x.len() != 1 {
-        return 0;
+    match x {
+        b"1" => 1,
+        b"2" => 2,
+        b"3" => 3,
+        _ => 0,
     }
-    let c = x[0];
-    if c < 49 {
-        return 0;
-    }
-    if 51 < c {
-        return 0;
-    }
-    (c - 48) as usize
 }
 
 pub fn divider_count(line: &[u8]) -> usize
@@ -34,12 +27,9 @@ pub fn divider_count(line: &[u8]) -> usize
 pub fn divider_at(line: &[u8], t: usize) -> usize
     ensures { (result ≡ divider_at (fields line.now) (min t 3)) × (4 ≤ result) × (result ≤ 19) }
 {
-    let n = lesser(t, 3);
     let mut a: usize = 4;
-    let mut j = 0;
-    while j < n {
-        a = a + 2 + count_of(field(line, a + 1));
-        j += 1;
+    for _ in 0..t.min(3) {
+        a += 2 + count_of(field(line, a + 1));
     }
     a
 }
@@ -60,7 +50,7 @@ pub fn quadrants_at(line: &[u8]) -> usize
 pub fn quadrant_count(line: &[u8]) -> usize
     ensures { result ≡ quadrant_count (fields line.now) }
 {
-    minus(field_count(line), quadrants_at(line)) / (1 + divider_count(line))
+    field_count(line).saturating_sub(quadrants_at(line)) / (1 + divider_count(line))
 }
 
 // The field at which quadrant q begins, or the number of fields where there is no such quadrant.
@@ -79,13 +69,7 @@ fn counts_good(line: &[u8], d: usize) -> bool
     requires { d ≤ 3 }
     ensures { result ≡ all (λ t. leb 1 (value_count (fields line.now) t)) d }
 {
-    let mut ok = true;
-    let mut t = 0;
-    while t < d {
-        ok = ok & (1 <= value_count(line, t));
-        t += 1;
-    }
-    ok
+    (0..d).all(|t| 1 <= value_count(line, t))
 }
 
 pub fn layout_good(line: &[u8]) -> bool
@@ -94,5 +78,5 @@ pub fn layout_good(line: &[u8]) -> bool
     let d = divider_count(line);
     let a = quadrants_at(line);
     let n = field_count(line);
-    (1 <= d) & (counts_good(line, d) & ((a < n) & (minus(n, a) % (1 + d) == 0)))
+    (1 <= d) && counts_good(line, d) && (a < n) && (n - a) % (1 + d) == 0
 }

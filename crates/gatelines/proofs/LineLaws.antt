@@ -17,9 +17,11 @@ use Rattle.text.specs.Bounded.{tab}
 use Rattle.text.proofs.BoundedLaws.{get_or-tab}
 use Rattle.text.proofs.BytesLaws.{before_le}
 use Rattle.text.specs.Lines.{push, parts, fields}
-use Rattle.plans.specs.Indices.{how_many}
-use Rattle.plans.proofs.IndexLaws.{how_many_le}
 use Rattle.gates.specs.declared.LineKind.{LineKind}
+use Rattle.gates.specs.declared.LineRefusal.{LineRefusal}
+use Rattle.gates.specs.declared.LineRefusal.TheVariants.{UnknownKind, WrongShape, BadName, BadNumber, OffScale, BadDimension, CrossedBounds, BadMatrix, NoTiling}
+use Rattle.gates.specs.LineRefusals.{line_refusal_number}
+use Rattle.gates.specs.Rules.{no_refusal}
 use Rattle.gates.specs.Kinds.{line_kind, is_quad, dimension_of}
 use Rattle.gates.specs.Inner.Regions.{region_count, body_length}
 use Rattle.gates.specs.Quads.{divider_count, quadrant_count, quadrant_at}
@@ -51,9 +53,6 @@ quadrant-below s q h =
     let g : d ≡ divider_count fs = refl in
     omega (arith, fields-length s, quadrant-fits fs q d g h)
 
-pub count_le : (f : ℕ → Bool) (n k : ℕ) → k ≡ how_many f n → k ≤ n
-count_le f n k e = rw e (how_many_le f n)
-
 pub cond_lt : (q n a b r : ℕ) → q < n → r ≡ cond (ltb q n) a b → r ≡ a
 cond_lt q n a b r h e = e ∙ rw (lt-ltb q n h)
 
@@ -81,3 +80,17 @@ length-quad fs e = rw e
 pub length-other : (fs : List (List ℕ)) → is_quad (line_kind fs) ≡ false → body_length fs ≡ length fs - 3
 unfolding body_length
 length-other fs e = rw e
+
+-- ---- refusals
+
+-- the number of a refusal is below that of none
+pub refused : (r : LineRefusal) (n : ℕ) → line_refusal_number r ≡ cond (ltb (line_refusal_number r) no_refusal) (line_refusal_number r) n
+refused UnknownKind n = refl
+refused WrongShape n = refl
+refused BadName n = refl
+refused BadNumber n = refl
+refused OffScale n = refl
+refused BadDimension n = refl
+refused CrossedBounds n = refl
+refused BadMatrix n = refl
+refused NoTiling n = refl

@@ -5,14 +5,13 @@ ghost use Rattle.plans.specs.Symmetric.{symmetric_from};
 ghost use Rattle.plans.specs.Form.{matrix3_good};
 ghost use Rattle.gates.specs.Kinds.{field_at, value_of};
 ghost use Rattle.gates.specs.Refusal.{shape_good, becomes as becomes_of, entry_of, matrix_passes, tiling_passes, line_refusal};
+ghost use Rattle.gates.specs.LineRefusals.{earned_number};
 
 use crate::tiling::tiles;
-use gatefields::fields::{
-    is_quad, is_unknown, kind_of, minus, step_kind, thousandths_of, value_of,
-};
+use gatefields::fields::{is_quad, is_unknown, kind_of, step_kind, thousandths_of, value_of};
 use gatefields::quads::layout_good;
 use gaterules::fields_refusal;
-use gates::LineKind;
+use gates::{LineKind, LineRefusal};
 use plans::form::{is_length, kind_number};
 use plans::matrix::matrix_good;
 use plans::matrix3::matrix3_good;
@@ -86,26 +85,23 @@ fn tiling_passes(kind: LineKind, line: &[u8]) -> bool
     true
 }
 
-// The refusal of a gate line under a head line, 4 to 12; 99 where none applies.
-pub fn line_refusal(head: &[u8], line: &[u8]) -> u8
-    ensures { result ≡ line_refusal (drop 1 (fields head.now)) (fields line.now) }
+// The refusal of a gate line under a head line, 4 to 12, if there is one.
+pub fn line_refusal(head: &[u8], line: &[u8]) -> Result<(), LineRefusal>
+    ensures { earned_number result ≡ line_refusal (drop 1 (fields head.now)) (fields line.now) }
 {
     let kind = kind_of(line);
     if is_unknown(kind) {
-        return 4;
+        return Err(LineRefusal::UnknownKind);
     }
-    if !shape_good(kind, minus(field_count(line), 3), line) {
-        return 5;
+    if !shape_good(kind, field_count(line).saturating_sub(3), line) {
+        return Err(LineRefusal::WrongShape);
     }
-    let m = fields_refusal(head, kind, line);
-    if m < 99 {
-        return m;
-    }
+    fields_refusal(head, kind, line)?;
     if !matrix_passes(kind, line) {
-        return 11;
+        return Err(LineRefusal::BadMatrix);
     }
     if !tiling_passes(kind, line) {
-        return 12;
+        return Err(LineRefusal::NoTiling);
     }
-    99
+    Ok(())
 }

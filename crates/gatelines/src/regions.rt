@@ -5,7 +5,7 @@ ghost use Rattle.gates.specs.Kinds.{field_at, line_kind};
 ghost use Rattle.gates.specs.Inner.Regions.{region_count, region_name, step_number, body_length, body_word_of};
 
 use crate::words::{line_word, quadrant_word};
-use gatefields::fields::{is_quad, kind_of, minus, name_count, step_kind};
+use gatefields::fields::{is_quad, kind_of, name_count, step_kind};
 use gatefields::quads::{divider_count, quadrant_at, quadrant_count};
 use plans::form::kind_number;
 use text::lines::{field, field_count};
@@ -51,7 +51,7 @@ pub fn parent_field(line: &[u8]) -> &[u8]
 pub fn operand_field(line: &[u8], j: usize) -> &[u8]
     ensures { result.now ≡ field_at (fields line.now) (3 + j) }
 {
-    if minus(field_count(line), 3) <= j {
+    if field_count(line).saturating_sub(3) <= j {
         return &line[..0];
     }
     field(line, 3 + j)
@@ -71,7 +71,7 @@ pub fn body_length(line: &[u8]) -> usize
     if is_quad(kind_of(line)) {
         return 3 * divider_count(line);
     }
-    minus(field_count(line), 3)
+    field_count(line).saturating_sub(3)
 }
 
 // Word i of the body of region q, of a box, polygon or ellipse; 0 where there is none.

@@ -5,7 +5,7 @@ ghost use Rattle.plans.specs.Indices.{how_many};
 ghost use Rattle.gates.specs.Quads.{divider_count, divider_value, quadrant_count, representative as representative_of};
 ghost use Rattle.gates.specs.Tiling.{interval as interval_of, holds_interval, interval_in as part_of, is_combination, holds_combination, held_once, tiles as tiles_of};
 
-use gatefields::fields::{is_star, pick, value_of};
+use gatefields::fields::{is_star, value_of};
 use gatefields::quads::{divider_at, divider_count, quadrant_at, quadrant_count, value_count};
 use text::lines::field;
 
@@ -22,14 +22,9 @@ pub fn interval(line: &[u8], t: usize, x: i32) -> usize
     requires { t ≤ 3 }
     ensures { (result ≡ interval_of (fields line.now) t x) × (result ≤ 3) }
 {
-    let n = value_count(line, t);
-    let mut k: usize = 0;
-    let mut j: usize = 0;
-    while j < n {
-        k = pick(divider_value(line, t, j) <= x, k + 1, k);
-        j += 1;
-    }
-    k
+    (0..value_count(line, t))
+        .filter(|&j| divider_value(line, t, j) <= x)
+        .count()
 }
 
 // What quadrant q has for divider t.
@@ -65,42 +60,23 @@ fn part(c: usize, t: usize) -> usize
 fn is_combination(line: &[u8], c: usize) -> bool
     ensures { result ≡ is_combination (fields line.now) c }
 {
-    let d = divider_count(line);
-    let mut ok = true;
-    let mut t: usize = 0;
-    while t < d {
-        ok = ok & (part(c, t) <= value_count(line, t));
-        t += 1;
-    }
-    ok
+    (0..divider_count(line)).all(|t| part(c, t) <= value_count(line, t))
 }
 
 fn holds_combination(line: &[u8], c: usize, q: usize) -> bool
     requires { q < quadrant_count (fields line.now) }
     ensures { result ≡ holds_combination (fields line.now) c q }
 {
-    let d = divider_count(line);
-    let mut ok = true;
-    let mut t: usize = 0;
-    while t < d {
-        ok = ok & holds_interval(line, q, t, part(c, t));
-        t += 1;
-    }
-    ok
+    (0..divider_count(line)).all(|t| holds_interval(line, q, t, part(c, t)))
 }
 
 // How many quadrants hold combination c.
 fn holders(line: &[u8], c: usize) -> usize
     ensures { result ≡ how_many (holds_combination (fields line.now) c) (quadrant_count (fields line.now)) }
 {
-    let n = quadrant_count(line);
-    let mut k: usize = 0;
-    let mut q: usize = 0;
-    while q < n {
-        k = pick(holds_combination(line, c, q), k + 1, k);
-        q += 1;
-    }
-    k
+    (0..quadrant_count(line))
+        .filter(|&q| holds_combination(line, c, q))
+        .count()
 }
 
 fn held_once(line: &[u8], c: usize) -> bool
@@ -133,15 +109,5 @@ pub fn tiles(line: &[u8]) -> bool
     ensures { result ≡ tiles_of (fields line.now) }
 {
     let n = combinations(divider_count(line));
-    if n < quadrant_count(line) {
-        return false;
-    }
-    let mut c: usize = 0;
-    while c < n {
-        if !held_once(line, c) {
-            return false;
-        }
-        c += 1;
-    }
-    true
+    (quadrant_count(line) <= n) && (0..n).all(|c| held_once(line, c))
 }

@@ -2,22 +2,21 @@
 #![tactic(auto)]
 
 ghost use Rattle.std.specs.Prelude.{◌≡◌, ◌+◌, ◌≤◌, min, drop};
+ghost use Rattle.std.specs.Option.{option_map_or};
+ghost use Rattle.integers.specs.Range.{in_range};
 ghost use Rattle.text.specs.Lines.{fields};
 ghost use Rattle.gates.specs.Inner.Bounds.{Bound, DecimalBound};
-ghost use Rattle.gates.specs.Rules.{rect_rule, poly_rule, ellip_rule, ellip3_rule, divider_rule, divider_of, quad_rule, body_rule, rule_of, is_dimension};
+ghost use Rattle.gates.specs.Rules.{rect_rule, poly_rule, ellip_rule, ellip3_rule, divider_rule, divider_of, quad_rule, body_rule, rule_of};
 ghost use Rattle.gates.specs.Rules.{dimension_passes, number_refusal, decimal_refusal, optional_refusal, field_refusal, fields_refusal, unless as unless_of, repeated as is_repeated, uncrossed as rises_of};
+ghost use Rattle.gates.specs.LineRefusals.{line_refusal_number, earned_number};
 
-use decimals::{Decimal, read_decimal};
-use gatefields::fields::{
-    dimension_of, is_operand, is_parent, is_star, minus, name_count, pick, value_of,
-};
+use decimals::read_decimal;
+use gatefields::fields::{dimension_of, is_operand, is_parent, is_star, name_count, value_of};
 use gatefields::quads::{divider_at, divider_count, quadrants_at};
-use gates::{LineKind, Rule};
+use gates::{LineKind, LineRefusal, Rule};
 use text::lines::{field, field_count};
 use text::names::{is_name, same};
-use text::numbers::{Number, is_number, read_number};
-
-const NONE: u8 = 99;
+use text::numbers::{is_number, read_number};
 
 fn rect_rule(i: usize) -> Rule
     ensures { result ≡ rect_rule i }
@@ -91,10 +90,10 @@ fn divider_of(line: &[u8], k: usize) -> usize
 {
     let d = divider_count(line);
     let mut r: usize = 0;
-    let mut t: usize = 0;
-    while t < d {
-        r = pick(divider_at(line, t) <= k, t, r);
-        t += 1;
+    for t in 0..d {
+        if divider_at(line, t) <= k {
+            r = t;
+        }
     }
     r
 }
@@ -107,7 +106,7 @@ fn quad_rule(line: &[u8], k: usize) -> Rule
     }
     let a = quadrants_at(line);
     if k < a {
-        return divider_rule(minus(k, divider_at(line, divider_of(line, k))));
+        return divider_rule(k.saturating_sub(divider_at(line, divider_of(line, k))));
     }
     let size = 1 + divider_count(line);
     if (k - a) % size == 0 {
@@ -151,40 +150,12 @@ pub fn rule_of(kind: LineKind, line: &[u8], k: usize) -> Rule
     body_rule(kind, line, k - 3, k)
 }
 
-fn is_dimension(rule: Rule) -> bool
-    ensures { result ≡ is_dimension rule }
-{
-    match rule {
-        Rule::Free => false,
-        Rule::Name => false,
-        Rule::Parent => false,
-        Rule::Operand => false,
-        Rule::Dimension => true,
-        Rule::Coordinate => false,
-        Rule::Entry => false,
-        Rule::Distance => false,
-        Rule::DecimalEntry => false,
-        Rule::DecimalDistance => false,
-        Rule::Min => false,
-        Rule::Max => false,
-        Rule::Value => false,
-        Rule::Rising => false,
-        Rule::Representative => false,
-    }
-}
-
 // Whether the dimension at k stands before k too.
 fn repeated(kind: LineKind, line: &[u8], k: usize) -> bool
     ensures { result ≡ is_repeated kind (fields line.now) k }
 {
     let x = field(line, k);
-    let mut b = false;
-    let mut j = 0;
-    while j < k {
-        b = b | (is_dimension(rule_of(kind, line, j)) & same(field(line, j), x));
-        j += 1;
-    }
-    b
+    (0..k).any(|j| rule_of(kind, line, j) == Rule::Dimension && same(field(line, j), x))
 }
 
 fn dimension_passes(head: &[u8], kind: LineKind, line: &[u8], k: usize) -> bool
@@ -193,45 +164,52 @@ fn dimension_passes(head: &[u8], kind: LineKind, line: &[u8], k: usize) -> bool
     (dimension_of(head, field(line, k)) < name_count(head)) & !repeated(kind, line, k)
 }
 
-fn unless(good: bool, refusal: u8) -> u8
-    ensures { result ≡ unless_of good refusal }
+fn unless(good: bool, refusal: LineRefusal) -> Result<(), LineRefusal>
+    ensures { earned_number result ≡ unless_of good (line_refusal_number refusal) }
 {
-    if good { NONE } else { refusal }
+    if good { Ok(()) } else { Err(refusal) }
 }
 
-fn least_of(x: u8, y: u8) -> u8
-    ensures { result ≡ min x y }
+// The least that two tests earn.
+fn least_of(x: Result<(), LineRefusal>, y: Result<(), LineRefusal>) -> Result<(), LineRefusal>
+    ensures { earned_number result ≡ min (earned_number x) (earned_number y) }
 {
-    if x < y { x } else { y }
-}
-
-fn number_refusal(lo: i32, hi: i32, x: &[u8]) -> u8
-    requires { (Bound lo) × (Bound hi) }
-    ensures { result ≡ number_refusal lo hi x.now }
-{
-    match read_number(x) {
-        Number::Bad => 7,
-        Number::Value(v) => unless((lo <= v) & (v <= hi), 8),
+    match (x, y) {
+        (Err(a), Err(b)) => Err(a.min(b)),
+        (Ok(()), other) => other,
+        (refused, Ok(())) => refused,
     }
+}
+
+// What is earned by a number, if it is one, that has to lie between two ends.
+fn range_refusal(lo: i32, hi: i32, read: Option<i32>) -> Result<(), LineRefusal>
+    ensures { earned_number result ≡ option_map_or (λ z. unless_of (in_range lo hi z) 8) read 7 }
+{
+    let value = read.ok_or(LineRefusal::BadNumber)?;
+    unless((lo <= value) & (value <= hi), LineRefusal::OffScale)
+}
+
+fn number_refusal(lo: i32, hi: i32, x: &[u8]) -> Result<(), LineRefusal>
+    requires { (Bound lo) × (Bound hi) }
+    ensures { earned_number result ≡ number_refusal lo hi x.now }
+{
+    range_refusal(lo, hi, read_number(x))
 }
 
 // The same of a number that may have decimals, with the ends in thousandths.
-fn decimal_refusal(lo: i32, hi: i32, x: &[u8]) -> u8
+fn decimal_refusal(lo: i32, hi: i32, x: &[u8]) -> Result<(), LineRefusal>
     requires { (DecimalBound lo) × (DecimalBound hi) }
-    ensures { result ≡ decimal_refusal lo hi x.now }
+    ensures { earned_number result ≡ decimal_refusal lo hi x.now }
 {
-    match read_decimal(x) {
-        Decimal::Bad => 7,
-        Decimal::Thousandths(z) => unless((lo <= z) & (z <= hi), 8),
-    }
+    range_refusal(lo, hi, read_decimal(x))
 }
 
-fn optional_refusal(lo: i32, hi: i32, x: &[u8]) -> u8
+fn optional_refusal(lo: i32, hi: i32, x: &[u8]) -> Result<(), LineRefusal>
     requires { (Bound lo) × (Bound hi) }
-    ensures { result ≡ optional_refusal lo hi x.now }
+    ensures { earned_number result ≡ optional_refusal lo hi x.now }
 {
     if is_star(x) {
-        return NONE;
+        return Ok(());
     }
     number_refusal(lo, hi, x)
 }
@@ -243,40 +221,47 @@ fn rises(y: &[u8], x: &[u8]) -> bool
     !(is_number(y) & (is_number(x) & (value_of(x) <= value_of(y))))
 }
 
-fn field_refusal(head: &[u8], kind: LineKind, line: &[u8], k: usize) -> u8
-    ensures { result ≡ field_refusal (drop 1 (fields head.now)) kind (fields line.now) k }
+// What a field earns.
+fn field_refusal(head: &[u8], kind: LineKind, line: &[u8], k: usize) -> Result<(), LineRefusal>
+    ensures { earned_number result ≡ field_refusal (drop 1 (fields head.now)) kind (fields line.now) k }
 {
-    let y = field(line, minus(k, 1));
+    let y = field(line, k.saturating_sub(1));
     let x = field(line, k);
     match rule_of(kind, line, k) {
-        Rule::Free => NONE,
-        Rule::Name => unless(is_name(x), 6),
-        Rule::Parent => unless(is_parent(x), 6),
-        Rule::Operand => unless(is_operand(x), 6),
-        Rule::Dimension => unless(dimension_passes(head, kind, line, k), 9),
+        Rule::Free => Ok(()),
+        Rule::Name => unless(is_name(x), LineRefusal::BadName),
+        Rule::Parent => unless(is_parent(x), LineRefusal::BadName),
+        Rule::Operand => unless(is_operand(x), LineRefusal::BadName),
+        Rule::Dimension => unless(
+            dimension_passes(head, kind, line, k),
+            LineRefusal::BadDimension,
+        ),
         Rule::Coordinate => number_refusal(-65536, 65535, x),
         Rule::Entry => number_refusal(-16777216, 16777216, x),
         Rule::Distance => number_refusal(1, 4096, x),
         Rule::DecimalEntry => decimal_refusal(-2000000000, 2000000000, x),
         Rule::DecimalDistance => decimal_refusal(1, 4096000, x),
         Rule::Min => optional_refusal(-65536, 65535, x),
-        Rule::Max => least_of(optional_refusal(-65535, 65536, x), unless(rises(y, x), 10)),
+        Rule::Max => least_of(
+            optional_refusal(-65535, 65536, x),
+            unless(rises(y, x), LineRefusal::CrossedBounds),
+        ),
         Rule::Value => number_refusal(-65535, 65535, x),
-        Rule::Rising => least_of(number_refusal(-65535, 65535, x), unless(rises(y, x), 10)),
+        Rule::Rising => least_of(
+            number_refusal(-65535, 65535, x),
+            unless(rises(y, x), LineRefusal::CrossedBounds),
+        ),
         Rule::Representative => optional_refusal(-65536, 65535, x),
     }
 }
 
-// The least refusal that a field earns, 6 to 10; 99 where none applies.
-pub fn fields_refusal(head: &[u8], kind: LineKind, line: &[u8]) -> u8
-    ensures { result ≡ fields_refusal (drop 1 (fields head.now)) kind (fields line.now) }
+// The least refusal that a field earns, 6 to 10, if there is one.
+pub fn fields_refusal(head: &[u8], kind: LineKind, line: &[u8]) -> Result<(), LineRefusal>
+    ensures { earned_number result ≡ fields_refusal (drop 1 (fields head.now)) kind (fields line.now) }
 {
-    let n = field_count(line);
-    let mut m = NONE;
-    let mut k = 0;
-    while k < n {
-        m = least_of(m, field_refusal(head, kind, line, k));
-        k += 1;
+    let mut least = Ok(());
+    for k in 0..field_count(line) {
+        least = least_of(least, field_refusal(head, kind, line, k));
     }
-    m
+    least
 }

@@ -1,7 +1,7 @@
 // Rows of bits: what each row reaches, and the next row whose bits are all in a set.
 #![tactic(auto)]
 
-ghost use Rattle.std.specs.Prelude.{◌≡◌, ℕ, min, length, get_or, cond};
+ghost use Rattle.std.specs.Prelude.{◌≡◌, ℕ, length, get_or, cond};
 ghost use Rattle.std.specs.Int.Bits.{bit_or};
 ghost use Rattle.plans.specs.Bits.{has_bit};
 ghost use Rattle.plans.specs.Indices.{first_bad};
@@ -17,19 +17,20 @@ pub struct Rows {
     pub bits: [u64; 64],
 }
 
-// Rows with no bit.
-pub fn no_rows() -> Rows
-    ensures { result.bits ≡ zero_rows }
-{
-    Rows { bits: [0u64; 64] }
-}
+impl Rows {
+    // Rows with no bit.
+    pub fn new() -> Rows
+        ensures { result.bits ≡ zero_rows }
+    {
+        Rows { bits: [0; 64] }
+    }
 
-// Row i, and 0 where there is none.
-fn row_at(rows: &[u64; 64], i: usize) -> u64
-    requires { length rows.now ≡ 64 }
-    ensures { result ≡ get_or rows.now i 0 }
-{
-    if i < 64 { rows[i] } else { 0 }
+    // Row i, and 0 where there is none.
+    pub fn row(&self, i: usize) -> u64
+        ensures { result ≡ get_or self.now.bits i 0 }
+    {
+        self.bits.get(i).copied().unwrap_or(0)
+    }
 }
 
 // The row with another put into it, where it has bit s.
@@ -44,31 +45,19 @@ fn round(rows: &mut [u64; 64], s: usize)
     requires { length rows.old ≡ 64 }
     ensures { rows.new ≡ tab (joined rows.old s) (length rows.old) }
 {
-    let other = row_at(rows, s);
-    let mut i = 0;
-    while i < 64 {
-        let row = rows[i];
-        rows[i] = put_into(row, s, other);
-        i += 1;
+    let other = if s < 64 { rows[s] } else { 0 };
+    for i in 0..64 {
+        rows[i] = put_into(rows[i], s, other);
     }
-}
-
-fn at_most_64(n: usize) -> usize
-    ensures { result ≡ min n 64 }
-{
-    if n < 64 { n } else { 64 }
 }
 
 // Row a afterwards: what a reaches by way of rows below n.
 pub fn reach(rows: Rows, n: usize) -> Rows
     ensures { (a b : ℕ) → bit_at result.bits a b ≡ reaches_by (bit_at rows.bits) n a b }
 {
-    let m = at_most_64(n);
     let mut r = rows;
-    let mut s = 0;
-    while s < m {
+    for s in 0..n.min(64) {
         round(&mut r.bits, s);
-        s += 1;
     }
     r
 }
@@ -81,16 +70,10 @@ fn is_within(a: u64, b: u64) -> bool
 }
 
 // The lowest row below n that is not in the set and whose bits all are, or n.
-pub fn next_row(rows: Rows, set: u64, n: usize) -> usize
-    ensures { result ≡ first_bad (held rows.bits set) 0 n }
+pub fn next_row(rows: &Rows, set: u64, n: usize) -> usize
+    ensures { result ≡ first_bad (held rows.now.bits set) 0 n }
 {
-    let mut r = 0;
-    while r < n {
-        let row = row_at(&rows.bits, r);
-        if !has_bit(set, r) & is_within(row, set) {
-            return r;
-        }
-        r += 1;
-    }
-    r
+    (0..n)
+        .find(|&r| !has_bit(set, r) & is_within(rows.row(r), set))
+        .unwrap_or(n)
 }

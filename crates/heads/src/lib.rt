@@ -8,8 +8,9 @@ ghost use Rattle.text.specs.Names.{is_name};
 ghost use Rattle.tables.specs.Table.{different};
 ghost use Rattle.tables.specs.Head.{is_dims, head_good};
 ghost use Rattle.tables.specs.Columns.{first_differing, right_line, columns_verdict};
-ghost use Rattle.heads.specs.Answers.{columns_said};
+ghost use Rattle.heads.specs.Answers.{columns_said, wrong_columns};
 
+use plans::refusals::Numbered;
 use text::lines::{field, field_count, find, find_field, line_from};
 use text::names::{is_name, same};
 
@@ -30,30 +31,14 @@ fn is_dims(x: &[u8]) -> bool
 fn all_names(head: &[u8]) -> bool
     ensures { result ≡ every is_name (drop 1 (fields head.now)) }
 {
-    let n = field_count(head);
-    let mut k = 1;
-    while k < n {
-        if !is_name(field(head, k)) {
-            return false;
-        }
-        k += 1;
-    }
-    true
+    (1..field_count(head)).all(|k| is_name(field(head, k)))
 }
 
 // Whether the fields behind the first are different.
 fn all_different(head: &[u8]) -> bool
     ensures { result ≡ different (drop 1 (fields head.now)) }
 {
-    let n = field_count(head);
-    let mut k = 1;
-    while k < n {
-        if find_field(head, 1, field(head, k)) != k {
-            return false;
-        }
-        k += 1;
-    }
-    true
+    (1..field_count(head)).all(|k| find_field(head, 1, field(head, k)) == k)
 }
 
 // Whether line 1 is `dims` and 1 to 8 different names.
@@ -66,12 +51,22 @@ pub fn head_good(text: &[u8]) -> bool
     is_dims(field(head, 0)) & (sized & (all_names(head) & all_different(head)))
 }
 
-// What testing a column line answers.
-#[derive(Clone, Copy)]
-pub enum Columns {
-    Right,
-    // refusal 31 and the first field that differs
-    Wrong { field: usize },
+// A column line that is not right: refusal 31, with the first field that differs.
+#[derive(Clone, Copy, Debug, PartialEq, Eq)]
+pub struct WrongColumns {
+    pub field: usize,
+}
+
+impl Numbered for WrongColumns {
+    ghost verdict = { wrong_columns };
+
+    fn number(self) -> u64 {
+        31
+    }
+
+    fn place(self) -> u64 {
+        self.field as u64
+    }
 }
 
 // The first field of a line that differs from a head's names, or the end of the shorter. A field is searched for in the head from its own place on.
@@ -92,16 +87,16 @@ fn first_differing(head: &[u8], line: &[u8]) -> usize
 }
 
 // Tests the column line of a list, without its LF, by a table.
-pub fn test_columns(table: &[u8], columns: &[u8]) -> Columns
+pub fn test_columns(table: &[u8], columns: &[u8]) -> Result<(), WrongColumns>
     ensures { columns_said result ≡ columns_verdict table.now (columns.now ∷ []) }
 {
     let head = head_line(table);
     let n = field_count(head);
     let k = first_differing(head, columns);
     if (k + 1 == n) & (k == field_count(columns)) {
-        return Columns::Right;
+        return Ok(());
     }
-    Columns::Wrong { field: k }
+    Err(WrongColumns { field: k })
 }
 
 // The column line that is right for a table: what stands behind the first tab of line 1.

@@ -1,11 +1,11 @@
 // The names that gate lines give and refer to.
 #![tactic(auto)]
 
-ghost use Rattle.std.specs.Prelude.{◌≡◌, ◌≤◌, max};
+ghost use Rattle.std.specs.Prelude.{◌≡◌, ◌≤◌};
 ghost use Rattle.text.specs.Lines.{fields};
 ghost use Rattle.linenames.specs.Inner.LineNames.{region_named, names_region, quad_count, quadrant_name, quadrant_named, gives_name, shares_name, new_quadrant, own_different, end_in, reference_end, has_reference, reference_at, refers_line};
 
-use gatefields::fields::{combines, is_none, is_quad, kind_of, operand_name, pick, step_kind};
+use gatefields::fields::{combines, is_none, is_quad, kind_of, operand_name, step_kind};
 use gatefields::quads::{quadrant_at, quadrant_count};
 use gatelines::regions::{region_count, region_name};
 use gates::LineKind;
@@ -17,7 +17,11 @@ use text::names::same;
 fn quad_count(line: &[u8]) -> usize
     ensures { result ≡ quad_count (fields line.now) }
 {
-    pick(is_quad(kind_of(line)), quadrant_count(line), 0)
+    if is_quad(kind_of(line)) {
+        quadrant_count(line)
+    } else {
+        0
+    }
 }
 
 fn quadrant_name(line: &[u8], q: usize) -> &[u8]
@@ -31,14 +35,7 @@ pub fn find_region(line: &[u8], x: &[u8]) -> usize
     ensures { result ≡ region_named (fields line.now) x.now }
 {
     let n = region_count(line);
-    let mut q = 0;
-    while q < n {
-        if same(x, region_name(line, q)) {
-            return q;
-        }
-        q += 1;
-    }
-    q
+    (0..n).find(|&q| same(x, region_name(line, q))).unwrap_or(n)
 }
 
 // Whether a region of a gate line has a name.
@@ -52,7 +49,11 @@ pub fn names_region(line: &[u8], x: &[u8]) -> bool
 fn find_quadrant(line: &[u8], x: &[u8]) -> usize
     ensures { result ≡ quadrant_named (fields line.now) x.now }
 {
-    pick(is_quad(kind_of(line)), find_region(line, x), 0)
+    if is_quad(kind_of(line)) {
+        find_region(line, x)
+    } else {
+        0
+    }
 }
 
 // Whether a gate line gives a name to its gate or to a quadrant.
@@ -69,15 +70,7 @@ pub fn shares_name(line: &[u8], other: &[u8]) -> bool
     if gives_name(other, field(line, 1)) {
         return true;
     }
-    let n = quad_count(line);
-    let mut q = 0;
-    while q < n {
-        if gives_name(other, quadrant_name(line, q)) {
-            return true;
-        }
-        q += 1;
-    }
-    false
+    (0..quad_count(line)).any(|q| gives_name(other, quadrant_name(line, q)))
 }
 
 fn new_quadrant(line: &[u8], q: usize) -> bool
@@ -91,15 +84,7 @@ fn new_quadrant(line: &[u8], q: usize) -> bool
 pub fn own_different(line: &[u8]) -> bool
     ensures { result ≡ own_different (fields line.now) }
 {
-    let n = quad_count(line);
-    let mut q = 0;
-    while q < n {
-        if !new_quadrant(line, q) {
-            return false;
-        }
-        q += 1;
-    }
-    true
+    (0..quad_count(line)).all(|q| new_quadrant(line, q))
 }
 
 fn end_in(kind: LineKind, n: usize) -> usize
@@ -111,13 +96,7 @@ fn end_in(kind: LineKind, n: usize) -> usize
     if kind_number(step_kind(kind)) == 6 {
         return 4;
     }
-    at_least_3(n)
-}
-
-fn at_least_3(n: usize) -> usize
-    ensures { result ≡ max 3 n }
-{
-    if n < 3 { 3 } else { n }
+    n.max(3)
 }
 
 // The field after the last that may name a region; the first is field 2.
@@ -148,13 +127,10 @@ pub fn reference(line: &[u8], k: usize) -> &[u8]
 pub fn refers_to(line: &[u8], other: &[u8]) -> bool
     ensures { result ≡ refers_line (fields line.now) (fields other.now) }
 {
-    let end = reference_end(line);
-    let mut k = 2;
-    while k < end {
+    for k in 2..reference_end(line) {
         if has_reference(line, k) & names_region(other, reference(line, k)) {
             return true;
         }
-        k += 1;
     }
     false
 }

@@ -29,6 +29,7 @@ use Rattle.tables.proofs.CountLaws.{plan-width, counted}
 use Rattle.tables.proofs.Acceptance.{passed-accepted}
 use Rattle.events.specs.Parting.{table_part, event_part}
 use Rattle.events.specs.Listing.{list, column_lines, list_part, events_of}
+use Rattle.events.specs.Inner.Answers.{above_zero}
 use Rattle.events.proofs.EventTheorems.{values-complete}
 use Rattle.report.specs.Report.{tally_lines, report_of}
 use Rattle.report.proofs.ReportTheorems.{report_tally}
@@ -115,7 +116,7 @@ module _ (input : List ℕ) (short : length input ≤ 65536) (accepted : table_v
   run-tally =
       let p = plan_of (table_part input) in
       let whole = plan_text p ++ opened (list_part true (event_part input)) in
-      let read = run_ran whole ran_short (sym ran_parted.0) (sym (text_readable p fits passes)) (omega arith) p (sym (text-read p fits passes)) in
+      let read = run_ran whole ran_short (sym ran_parted.0) (ap above_zero (sym (text_readable p fits passes))) refl p (sym (text-read p fits passes)) in
       let events : events_of false (width p) whole ≡ list values = ap (λ (n : ℕ). events_of false n whole) width_same ∙ ran_parted.1 in
       let count = counted p values passes complete in
       ap run_report_of ran_is ∙ sym read ∙ rw (events, passes, count, count_same, width_same)

@@ -5,12 +5,9 @@ use mathlib.Core.Logic.{⊎_elim}
 use mathlib.Core.List.{List, [], ◌∷◌, ◌++◌, map, append_assoc}
 use Prim.Native.Nat.{ℕ, zero, suc, ◌+◌, ◌-◌, ◌≤◌, ◌<◌}
 use native.Mathlib.Omega.{arith}
-use lib.Dec.{T, ltb}
-use lib.IntN.{ℤ, pos, negsuc, neg_ℤ, nat_abs, ◌-ℤ◌, +ℤ_idl}
-use lib.Signed.{lt_z, non_neg}
-use mir.Syntax.{w32, w64}
-use mir.Val.{Fits, SFits}
-use Rattle.integers.proofs.Bounds.{abs_neg, in_fit}
+use lib.Dec.{ltb}
+use lib.IntN.{ℤ, pos, nat_abs}
+use lib.Signed.{lt_z}
 use lib.ListN.{length, get_or, drop, length-append, length-drop, drop_of_length-le}
 use lib.Seq.{length-take-le}
 use borrow.Author.Tests.{lt-ltb, le-ltb}
@@ -18,7 +15,7 @@ use Rattle.text.specs.Bytes.{bytes}
 use Rattle.text.specs.Lines.{unlines, unfields}
 use Rattle.text.specs.Output.{decimal, Writes}
 use Rattle.text.specs.Inner.Writing.{WritesFrom}
-use Rattle.text.proofs.TestLaws.{true≢false, lt_or_ge}
+use Rattle.text.proofs.TestLaws.{lt_or_ge}
 use Rattle.text.proofs.BytesLaws.{rest_cons}
 use Rattle.text.proofs.OutputLaws.{decimal-length}
 use Rattle.events.proofs.PrintingLaws.{written-more}
@@ -147,19 +144,3 @@ pub steps-none : (p : List ℤ) (left at : ℕ) → left ≤ 0 → unlines (map 
 unfolding step_parts
 steps-none p zero at h = refl
 steps-none p (suc left) at h = absurd (omega arith)
-
--- ---- the size of a word, by its sign
-
-module _ (w : ℤ) (f : SFits w32 w) where
-  size_fits : Fits w64 (nat_abs w)
-  size_fits = record { fits = omega (arith, (in_fit w32 f).abs) }
-
-  pub turned-size : nat_abs (pos 0 -ℤ w) ≡ nat_abs w
-  turned-size = ap nat_abs (+ℤ_idl (neg_ℤ w)) ∙ abs_neg w
-
-  pub turned-cast : lt_z w (pos 0) ≡ true → T (non_neg (pos 0 -ℤ w)) × Fits w64 (nat_abs (pos 0 -ℤ w))
-  turned-cast h = (rw (+ℤ_idl (neg_ℤ w)) (turned w h), rw turned-size size_fits)
-    where
-      turned : (w : ℤ) → lt_z w (pos 0) ≡ true → T (non_neg (neg_ℤ w))
-      turned (pos n) h = absurd (true≢false (sym h ∙ le-ltb n 0 (omega arith)))
-      turned (negsuc n) h = tt

@@ -8,24 +8,13 @@ ghost use Rattle.planreport.specs.PlanText.{word_text, words_line, plan_text};
 
 use events::printing::put_number_from;
 use plans::words::{number_at, part_at};
-use text::output::{lesser, put_bytes, put_number};
-
-// The size of a word without its sign.
-fn magnitude(w: i32) -> u64
-    ensures { result ≡ nat_abs w }
-{
-    if w < 0 {
-        (0 - w as i64) as u64
-    } else {
-        w as u64
-    }
-}
+use text::output::{put, put_bytes, put_from, put_number};
 
 // Writes a word over the beginning of rest, as far as it goes, and answers how many bytes it has.
 fn put_word(rest: &mut [u8], w: i32) -> usize
-    ensures { (Writes (word_text w) rest.old rest.new result) × (result ≤ 21) }
+    ensures { Writes (word_text w) rest.old rest.new result }
 {
-    let m = magnitude(w);
+    let m = w.unsigned_abs() as u64;
     if w < 0 {
         let a = put_bytes(rest, b"-");
         return a + put_number_from(rest, a, m);
@@ -35,10 +24,9 @@ fn put_word(rest: &mut [u8], w: i32) -> usize
 
 // The same from index a on.
 fn put_word_from(rest: &mut [u8], a: usize, w: i32) -> usize
-    ensures { (WritesFrom a (word_text w) rest.old rest.new result) × (result ≤ 21) }
+    ensures { WritesFrom a (word_text w) rest.old rest.new result }
 {
-    let b = lesser(a, rest.len());
-    put_word(&mut rest[b..], w)
+    put_from(rest, a, |rest: &mut [u8]| put_word(rest, w))
 }
 
 // What stands behind a word: a tab where more words follow, else LF.
@@ -48,15 +36,6 @@ fn word_end(more: bool) -> u8
     if more { b'\t' } else { b'\n' }
 }
 
-// Puts it at index a, where there is one.
-fn put_end(rest: &mut [u8], a: usize, more: bool)
-    ensures { WritesFrom a (cond more 9 10 ∷ []) rest.old rest.new 1 }
-{
-    if a < rest.len() {
-        rest[a] = word_end(more);
-    }
-}
-
 // Writes a line of words and its LF over the beginning of rest, as far as it goes, and answers how long it is.
 fn put_line(rest: &mut [u8], words: &[i32]) -> usize
     requires { (1 ≤ length words.now) × (length words.now ≤ 4096) }
@@ -64,12 +43,10 @@ fn put_line(rest: &mut [u8], words: &[i32]) -> usize
     ensures upper_bound { result ≤ 22 * length words.now }
 {
     let mut at: usize = 0;
-    let mut i = 0;
-    while i < words.len() {
-        at += put_word_from(rest, at, words[i]);
-        put_end(rest, at, i + 1 < words.len());
+    for (i, &word) in words.iter().enumerate() {
+        at += put_word_from(rest, at, word);
+        put(rest, at, word_end(i + 1 < words.len()));
         at += 1;
-        i += 1;
     }
     at
 }
@@ -80,8 +57,7 @@ fn put_line_from(rest: &mut [u8], a: usize, words: &[i32]) -> usize
     ensures writes_from { WritesFrom a (words_line words.now ++ (10 ∷ [])) rest.old rest.new result }
     ensures upper_bound { result ≤ 22 * length words.now }
 {
-    let b = lesser(a, rest.len());
-    put_line(&mut rest[b..], words)
+    put_from(rest, a, |rest: &mut [u8]| put_line(rest, words))
 }
 
 // Writes the text of a plan that passes over the beginning of out, as far as it goes, and answers how long it is.
@@ -90,13 +66,11 @@ pub fn put_plan(out: &mut [u8], plan: &[i32]) -> usize
     ensures { Writes (plan_text plan.now) out.old out.new result }
 {
     let mut at = put_line(out, part_at(plan, 0, 2));
-    let mut left = number_at(plan, 1);
     let mut word: usize = 2;
-    while 0 < left {
+    for _ in 0..number_at(plan, 1) {
         let m = 4 + number_at(plan, word + 3);
         at += put_line_from(out, at, part_at(plan, word, m));
         word += m;
-        left -= 1;
     }
     at
 }

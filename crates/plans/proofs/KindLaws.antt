@@ -6,14 +6,13 @@ use Prim.Native.Nat.{ℕ, ◌*◌, ◌/◌, ◌%◌, ◌<◌, ◌≤◌}
 use native.Mathlib.Omega.{arith}
 use lib.Dec.{eqb, ltb, leb}
 use lib.IntN.{ℤ, pos, negsuc, neg_ℤ, nat_abs}
-use lib.Signed.{le_z, ◌≤ℤ◌}
+use lib.Signed.{le_z}
 use borrow.Author.Tests.{le-leb, leb-true, ltb-true, eqb-true}
 use Rattle.integers.specs.Range.{in_range}
-use Rattle.integers.proofs.Order.{zarith}
 use Rattle.plans.specs.Words.{word, number, on_scale}
 use Rattle.plans.specs.Form.{earlier, dimension_good, box_word, polygon_word, entry, matrix_word, ellipse_word, matrix3_word, ellipsoid_word, operand_word, body_word}
 use Rattle.plans.specs.Kinds.{kind_of, kind_number, known, spans, spans_by, length_good}
-use Rattle.plans.specs.Inner.Reader.{body_run, ellipsoid_run, is_ellipse, most_entry, most_distance}
+use Rattle.plans.specs.Inner.Reader.{body_run, ellipsoid_run}
 use Rattle.plans.specs.declared.Kind.{Kind}
 use Rattle.plans.specs.declared.Kind.TheVariants.{Box, Polygon, Ellipse, And, Or, Not, DecimalEllipse, Ellipsoid, Unknown}
 use Rattle.plans.proofs.IndexLaws.{clash, and_both}
@@ -177,27 +176,6 @@ module _ (n k set : ℕ) (narrow : n ≤ 8) (few : k ≤ 64) (body : List ℤ) w
   body-fits DecimalEllipse i = ellipse-fits (pos 2000000000) (pos 4096000) (omega arith) (omega arith) (omega arith) i
   body-fits Ellipsoid i = ellipsoid-fits i
   body-fits Unknown i = λ e. absurd (clash (sym e))
-
--- ---- the two kinds of ellipse
-
-pub most-entry-from : (kind : Kind) → pos 0 ≤ℤ most_entry kind
-most-entry-from kind = go (eqb (kind_number kind) 7)
-  where
-    go : (b : Bool) → pos 0 ≤ℤ cond b (pos 2000000000) (pos 16777216)
-    go true = omega zarith
-    go false = omega zarith
-
-pub ellipse-is : (n k set : ℕ) (body : List ℤ) (i : ℕ) (kind : Kind) → is_ellipse kind ≡ true
-    → ellipse_word (most_entry kind) (most_distance kind) n body i ≡ body_word kind n k set body i
-ellipse-is n k set body i Box e = absurd (clash (sym e))
-ellipse-is n k set body i Polygon e = absurd (clash (sym e))
-ellipse-is n k set body i Ellipse e = refl
-ellipse-is n k set body i And e = absurd (clash (sym e))
-ellipse-is n k set body i Or e = absurd (clash (sym e))
-ellipse-is n k set body i Not e = absurd (clash (sym e))
-ellipse-is n k set body i DecimalEllipse e = refl
-ellipse-is n k set body i Ellipsoid e = absurd (clash (sym e))
-ellipse-is n k set body i Unknown e = absurd (clash (sym e))
 
 -- ---- ellipsoids
 

@@ -6,7 +6,7 @@ ghost use Rattle.plans.specs.Form.{matrix3_good};
 ghost use Rattle.plans.specs.Symmetric.{symmetric};
 
 use crate::matrix::{matrix_good, product};
-use wide::{Order, Wide, compare, of, plus, times};
+use wide::{Wide, compare, plus, times};
 
 // a · d − b · c
 fn minor(a: i32, b: i32, c: i32, d: i32) -> i64
@@ -18,11 +18,7 @@ fn minor(a: i32, b: i32, c: i32, d: i32) -> i64
 fn is_positive(w: Wide) -> bool
     ensures { result ≡ lt_z (pos 0) (value w) }
 {
-    match compare(w, of(0)) {
-        Order::Less => false,
-        Order::Equal => false,
-        Order::Greater => true,
-    }
+    compare(w, Wide::from(0)).is_gt()
 }
 
 // Whether c11, the upper left 2 by 2 determinant and the whole determinant are above 0.

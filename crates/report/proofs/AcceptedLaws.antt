@@ -1,9 +1,9 @@
 -- The gates of an accepted table are read through the places of its lines, and its regions have short names.
 use mathlib.Core.Path.{◌≡◌, sym, ap, ◌∙◌}
-use mathlib.Core.List.{List, [], ◌∷◌}
-use Prim.Native.Nat.{ℕ, ◌-◌, ◌<◌, ◌≤◌}
+use mathlib.Core.List.{List}
+use Prim.Native.Nat.{ℕ, ◌<◌, ◌≤◌}
 use native.Mathlib.Omega.{arith}
-use lib.ListN.{length, get_or, drop, length-drop}
+use lib.ListN.{length, get_or, length-drop}
 use Rattle.text.specs.Lines.{fields, lines}
 use Rattle.text.proofs.NamesLaws.{name-length}
 use Rattle.gates.specs.Gate.{Region, gate_regions, regions}
@@ -11,13 +11,12 @@ use Rattle.gates.specs.Meaning.{gate_of}
 use Rattle.gates.specs.Inner.Regions.{region_count, region_name}
 use Rattle.gates.proofs.GateLaws.{region-count, region-at, region-name}
 use Rattle.tables.specs.Table.{◌∈◌, no_region, nth_region}
-use Rattle.tables.specs.Head.{head_fields, dimensions, gate_lines, line_gate, gates}
+use Rattle.tables.specs.Head.{dimensions, gate_lines, line_gate, gates}
 use Rattle.tables.proofs.ListLaws.{map-from, at_in, index_of}
 use Rattle.tables.proofs.GateLaws.{gate_of-region}
 use Rattle.tables.proofs.Acceptance.{Accepted}
-use Rattle.tables.proofs.CompileLaws.{head-width}
-use Rattle.resolve.specs.Inner.Reading.{gates_at}
-use Rattle.resolve.proofs.StartLaws.{Indexed, gates-read}
+use Rattle.resolve.specs.Inner.Reading.{starts_of, gate_count, gates_at}
+use Rattle.resolve.proofs.StartLaws.{indexed, gates-read}
 use Rattle.compiler.proofs.SettledLaws.{lines-regions}
 
 -- ---- the regions of an accepted table
@@ -45,19 +44,12 @@ module _ (slice : ℕ) (text : List ℕ) (a : Accepted slice text) where
   unfolding gates
   gates-few = lines-regions (dimensions text) (gate_lines text) a.lines_good
 
-  pub lines-some : 1 ≤ length (lines text)
-  unfolding head_fields dimensions fields
-  lines-some = go (lines text) (head-width text a.head).0
-    where
-      go : (ls : List (List ℕ)) → 1 ≤ length (drop 1 (fields (get_or ls 0 []))) → 1 ≤ length ls
-      go [] h = absurd (omega arith)
-      go (l ∷ ls) h = omega arith
-
-  gates-number : length (gate_lines text) ≡ length (lines text) - 1
+  gates-number : length (gate_lines text) ≡ gate_count text
   unfolding gate_lines
   gates-number = length-drop 1 (lines text)
 
-  pub gates_are : (starts : List ℕ) → Indexed text starts → (k : ℕ) → k ≡ length (lines text) → gates_at text starts (k - 1) ≡ gates text
-  gates_are starts f k e =
-      let z : k - 1 ≡ length (gate_lines text) = omega (arith, gates-number) in
-      rw z (gates-read text starts f (omega (arith, gates-few, a.rules.few)))
+  -- of a table that is read of the text
+  pub gates_are : {t starts : List ℕ} {n : ℕ} → t ≡ text → starts ≡ starts_of text → n ≡ gate_count text → gates_at t starts n ≡ gates text
+  gates_are e f g =
+      let z : gate_count text ≡ length (gate_lines text) = sym gates-number in
+      rw (e, f, g, z) (gates-read text (starts_of text) (indexed text) (omega (arith, gates-few, a.rules.few)))

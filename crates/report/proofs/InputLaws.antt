@@ -5,6 +5,7 @@ use mathlib.Core.Logic.{◌⊎◌, inl, inr}
 use mathlib.Core.List.{List, [], ◌∷◌, map}
 use Prim.Native.Nat.{ℕ, ◌<◌, ◌≤◌}
 use native.Mathlib.Omega.{arith}
+use Rattle.std.specs.Prelude.{Some, None, Result, Ok, Err}
 use lib.Dec.{leb, eqb}
 use lib.IntN.{ℤ}
 use lib.ListN.{length, take, drop, length-map}
@@ -30,12 +31,12 @@ use Rattle.events.specs.Listing.{Events, list, ragged, column_lines, events_of}
 use Rattle.events.specs.Inner.Answers.{parted_of, listed, answer_of}
 use Rattle.events.specs.Printing.{refused_line, unless_refused}
 use Rattle.events.specs.declared.parting.Parted.{Parted}
-use Rattle.events.specs.declared.listing.Answer.{Answer}
-use Rattle.events.specs.declared.listing.Answer.TheVariants.{Values, Ragged, Short}
-use Rattle.events.proofs.AnswerLaws.{part-is}
+use Rattle.events.specs.declared.listing.ListRefusal.{ListRefusal}
+use Rattle.events.specs.declared.listing.ListRefusal.TheVariants.{Ragged, Short}
+use Rattle.events.proofs.PartingLaws.{start-there}
 use Rattle.events.proofs.EventTheorems.{values-few}
 use Rattle.events.proofs.CountedLaws.{count_clamped}
-use Rattle.events.proofs.ColumnLaws.{columns-not, columns-one}
+use Rattle.events.proofs.ColumnLaws.{opened-is, unopened-is, columns-not, columns-one}
 use Rattle.report.specs.Report.{counted_lines, events_lines, printed, report_of}
 use Rattle.report.specs.Inner.ColumnLine.{column_line}
 
@@ -53,25 +54,21 @@ module _ (input : List ℕ) where
 
 -- ---- the table
 
-pub table_is : (input : List ℕ) (o : Parted) → o ≡ parted_of input → take o.table input ≡ table_part input
+pub table_is : (input : List ℕ) {o : Parted} → o ≡ parted_of input → take o.table input ≡ table_part input
 unfolding parted_of table_part
-table_is input o e = rw e
+table_is input e = rw e
 
 -- ---- the column line
 
 -- from how the input is parted
-module _ (input : List ℕ) (o : Parted) (e : o ≡ parted_of input) where
-  opened-is : (has_events input && events_ended input) ≡ (o.found && o.ended)
-  unfolding parted_of
-  opened-is = rw e
-
-  pub column-opened : (o.found && o.ended) ≡ true → {part line : List ℕ} → part ≡ drop o.start input → line ≡ line_from part 0 → line ≡ column_line input
+module _ (input : List ℕ) {o : Parted} (e : o ≡ parted_of input) where
+  pub column-opened : {a : ℕ} → o.start ≡ Some a → {part line : List ℕ} → part ≡ drop a input → line ≡ line_from part 0 → line ≡ column_line input
   unfolding column_line
-  column-opened f g h = h ∙ rw (opened-is, f, part-is false true 0 input e, g)
+  column-opened f g h = h ∙ rw (opened-is input e f, (start-there input e f).1, g)
 
-  pub column-none : (o.found && o.ended) ≡ false → {line : List ℕ} → line ≡ right_line (take o.table input) → line ≡ column_line input
+  pub column-none : o.start ≡ None → {line : List ℕ} → line ≡ right_line (take o.table input) → line ≡ column_line input
   unfolding column_line
-  column-none f h = h ∙ rw (opened-is, f, table_is input o e)
+  column-none f h = h ∙ rw (unopened-is input e f, table_is input e)
 
 module _ (input : List ℕ) where
   -- of an accepted table: where no list is opened, the right line stands for none
@@ -125,38 +122,37 @@ kept-printed table columns vs =
 
 -- the events that an answer tells of
 module _ (room : ℕ) where
-  is-list : (es : Events) (k : ℕ) → answer_of es room ≡ Values k
+  is-list : (es : Events) (k : ℕ) → answer_of es room ≡ Ok k
       → (k ≡ length (listed es)) × ((table : List ℕ) (columns : List (List ℕ)) → printed table columns (list (listed es)) ≡ printed table columns es)
   is-list (list vs) k e = (go (leb (length vs) room) e ∙ sym (length-map vs clamp), λ table columns. kept-printed table columns vs)
     where
-      go : (b : Bool) → cond b (Values (length vs)) Short ≡ Values k → k ≡ length vs
+      go : (b : Bool) → cond b (Ok (length vs)) (Err Short) ≡ Ok k → k ≡ length vs
       go true f = cc
-      go false f = let z : ◌≡◌ {A = ℕ} 0 1 = cc in absurd (omega arith)
-  is-list (ragged line) k e = let z : ◌≡◌ {A = ℕ} 0 1 = cc in absurd (omega arith)
+      go false f = absurd (cc)
+  is-list (ragged line) k e = absurd (cc)
 
-  is-ragged : (es : Events) (line : ℕ) → answer_of es room ≡ Ragged line → es ≡ ragged line
+  is-ragged : (es : Events) (line : ℕ) → answer_of es room ≡ Err (Ragged line) → es ≡ ragged line
   is-ragged (list vs) line e = go (leb (length vs) room) e
     where
-      go : (b : Bool) → cond b (Values (length vs)) Short ≡ Ragged line → list vs ≡ ragged line
-      go true f = let z : ◌≡◌ {A = ℕ} 0 1 = cc in absurd (omega arith)
-      go false f = let z : ◌≡◌ {A = ℕ} 0 1 = cc in absurd (omega arith)
+      go : (b : Bool) → cond b (Ok (length vs)) (Err Short) ≡ Err (Ragged line) → list vs ≡ ragged line
+      go true f = absurd (cc)
+      go false f = absurd (cc)
   is-ragged (ragged l) line e = cc
 
-  not_short : (es : Events) → length (listed es) ≤ room → answer_of es room ≡ Short → ⊥
+  not_short : (es : Events) → length (listed es) ≤ room → answer_of es room ≡ Err Short → ⊥
   not_short (list vs) h e =
       let l = length-map vs clamp in
-      let f : Values (length vs) ≡ Short = rw (le-leb (length vs) room (omega arith)) at e in
-      let z : ◌≡◌ {A = ℕ} 0 1 = cc in
-      omega arith
-  not_short (ragged line) h e = let z : ◌≡◌ {A = ℕ} 0 1 = cc in omega arith
+      let f : ◌≡◌ {A = Result ℕ ListRefusal} (Ok (length vs)) (Err Short) = rw (le-leb (length vs) room (omega arith)) at e in
+      cc
+  not_short (ragged line) h e = cc
 
 -- events read over the beginning of a list of 32,768, which became x
-module _ (n : ℕ) (input : List ℕ) (h : length input ≤ 65536) (d x : List ℤ) (room : length d ≡ 32768) (a : Answer)
+module _ (n : ℕ) (input : List ℕ) (h : length input ≤ 65536) (d x : List ℤ) (room : length d ≡ 32768) (a : Result ℕ ListRefusal)
     (e : a ≡ answer_of (events_of true n input) (length d)) (f : x ≡ over (listed (events_of true n input)) d) where
-  pub never_short : a ≡ Short → ⊥
+  pub never_short : a ≡ Err Short → ⊥
   never_short q = not_short (length d) (events_of true n input) (omega (arith, room, listed-few n input h)) (sym e ∙ q)
 
-  module _ (k : ℕ) (q : a ≡ Values k) where
+  module _ (k : ℕ) (q : a ≡ Ok k) where
     pub values-room : k ≤ 32768
     values-room = omega (arith, (is-list (length d) (events_of true n input) k (sym e ∙ q)).0, listed-few n input h)
 
@@ -169,7 +165,7 @@ module _ (n : ℕ) (input : List ℕ) (h : length input ≤ 65536) (d x : List �
     pub values_listed : (table : List ℕ) (columns : List (List ℕ)) → printed table columns (list (take k x)) ≡ printed table columns (events_of true n input)
     values_listed table columns = rw values_are ((is-list (length d) (events_of true n input) k (sym e ∙ q)).1 table columns)
 
-  pub line-ragged : (line : ℕ) → a ≡ Ragged line → (table : List ℕ) (columns : List (List ℕ))
+  pub line-ragged : (line : ℕ) → a ≡ Err (Ragged line) → (table : List ℕ) (columns : List (List ℕ))
       → printed table columns (ragged line) ≡ printed table columns (events_of true n input)
   line-ragged line q table columns = ap (printed table columns) (sym (is-ragged (length d) (events_of true n input) line (sym e ∙ q)))
 

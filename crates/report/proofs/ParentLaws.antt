@@ -5,12 +5,11 @@ use mathlib.Core.Option.{Option, none, some}
 use mathlib.Core.List.Memᴰ
 use mathlib.Core.List.Memᴰ.{head as here}
 use mathlib.Core.List.{List}
-use Prim.Native.Nat.{ℕ, ◌-◌, ◌<◌, min}
+use Prim.Native.Nat.{ℕ, ◌<◌, min}
 use native.Mathlib.Omega.{arith}
 use borrow.Author.Tests.{lt-ltb}
 use lib.Dec.{ltb}
 use lib.ListN.{length, get_or}
-use Rattle.text.specs.Lines.{lines}
 use Rattle.counter.specs.declared.Tally.{Tally}
 use Rattle.gates.specs.Gate.{Name, regions}
 use Rattle.tables.specs.Table.{◌∈◌, nth_region, names, number_of, parent_names, operand_names}
@@ -19,8 +18,7 @@ use Rattle.tables.specs.Demand.{count_of_parent}
 use Rattle.tables.proofs.NameLaws.{region_in_lem, in_number}
 use Rattle.tables.proofs.GateLaws.{orderly}
 use Rattle.tables.proofs.Acceptance.{Accepted}
-use Rattle.resolve.specs.Inner.Reading.{regions_at}
-use Rattle.resolve.proofs.StartLaws.{Indexed}
+use Rattle.resolve.specs.Inner.Reading.{starts_of, gate_count, regions_at}
 use Rattle.stepwriter.specs.Inner.Parents.{number_of_parent}
 use Rattle.report.proofs.AcceptedLaws.{gates_are}
 
@@ -46,9 +44,9 @@ module _ (slice : ℕ) (text : List ℕ) (a : Accepted slice text) where
       count-of-parent t region.parent
       (λ x m. (orderly (gates text) a.rules).live region (region_in_lem (regions (gates text)) r h) x (Memᴰ.append_left (operand_names region.shape) m))
 
-  -- the same by the number that `parent_at` answers, with the gates read through the places of the k lines
-  pub parent-count-read : (starts : List ℕ) → Indexed text starts → (k : ℕ) → k ≡ length (lines text) → (t : Tally) (r : ℕ)
+  -- the same by the number that `parent_at` answers of a table that is read of the text
+  pub parent-count-read : {t starts : List ℕ} {n : ℕ} → t ≡ text → starts ≡ starts_of text → n ≡ gate_count text → (tally : Tally) (r : ℕ)
       → r < length (regions (gates text))
-      → {number : ℕ} → number ≡ number_of_parent (regions_at text starts (k - 1)) (nth_region (regions_at text starts (k - 1)) r).parent
-      → cond (ltb number 64) (get_or t.counts number 0) t.taken ≡ count_of_parent text t (nth_region (regions (gates text)) r).parent
-  parent-count-read starts f k e t r h number = rw (number, gates_are slice text a starts f k e) (parent-count t r h)
+      → {number : ℕ} → number ≡ number_of_parent (regions_at t starts n) (nth_region (regions_at t starts n) r).parent
+      → cond (ltb number 64) (get_or tally.counts number 0) tally.taken ≡ count_of_parent text tally (nth_region (regions (gates text)) r).parent
+  parent-count-read e f g tally r h number = rw (number, gates_are slice text a e f g) (parent-count tally r h)

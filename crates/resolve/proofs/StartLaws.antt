@@ -14,14 +14,13 @@ use Rattle.text.proofs.OutputLaws.{get_d_over}
 use Rattle.gates.specs.Gate.{Gate}
 use Rattle.tables.specs.Head.{dimensions, gate_lines, line_gate, gates}
 use Rattle.resolve.specs.Inner.Reading.{starts_of, line_at, gates_at}
-use Rattle.resolve.specs.declared.Starts.{Starts}
 
 -- the places of the lines lead to the gate lines
 abbrev pub Indexed : List ℕ → List ℕ → Type 0
 Indexed text starts = (i : ℕ) → i < 65 → i < length (gate_lines text) → line_at text starts i ≡ get_or (gate_lines text) i []
 
 -- the places of the lines are right up to the 65th gate line
-pub indexed : (text : List ℕ) → Indexed text (starts_of text).at
+pub indexed : (text : List ℕ) → Indexed text (starts_of text)
 unfolding starts_of line_at gate_lines
 indexed text i h l =
     let k : i + 1 < length (lines text) = omega (arith, length-drop 1 (lines text)) in
@@ -29,13 +28,8 @@ indexed text i h l =
     rw (get_d_over (line_starts text) (replicate 66 0) (i + 1) 0 (rw (line_starts-length text) k) (omega arith), line-at_start text (i + 1) k)
     (sym (get_or-drop 1 (lines text) i [] ∙ ap (λ (u : ℕ). get_or (lines text) u []) z))
 
-module _ (text : List ℕ) {s : Starts} (e : s ≡ starts_of text) where
-  pub places : Indexed text s.at
-  places = rw e (indexed text)
-
-  pub line-count : s.lines ≡ length (lines text)
-  unfolding starts_of
-  line-count = rw e
+pub places : (text : List ℕ) {starts : List ℕ} → starts ≡ starts_of text → Indexed text starts
+places text e = rw e (indexed text)
 
 -- ---- the gates that are read are the table's
 

@@ -1,100 +1,94 @@
 // The gate lines of a table through the places where they begin, and the numbers of its regions.
 #![tactic(auto)]
 
-ghost use Rattle.std.specs.Prelude.{◌≡◌, cond, ◌+◌, min, length, get_or, replicate};
+ghost use Rattle.std.specs.Prelude.{◌≡◌, cond, min, length};
 ghost use Rattle.plans.specs.Bits.{with_bit};
-ghost use Rattle.text.specs.Inner.Places.{line_starts};
-ghost use Rattle.text.specs.Output.{Writes};
 ghost use Rattle.tables.specs.Table.{number_of};
-ghost use Rattle.resolve.specs.Inner.Reading.{starts_of, line_at, regions_at};
+ghost use Rattle.resolve.specs.Inner.Reading.{starts_of, gate_count, line_at, regions_at};
 
 use gatelines::regions::region_count;
 use linenames::find_region;
 use plans::bits::with_bit;
 use text::lines::{index_lines, line_from};
 
-// The places where the lines of a text begin, the head first, then up to 65 gate lines; and how many lines there are.
+// A table read by its lines: its text, the places where they begin, the head first, then up to 65 gate lines, and how many gates are looked at.
 #[derive(Clone, Copy)]
-pub struct Starts {
-    pub at: [usize; 66],
-    pub lines: usize,
+pub struct Table<'a> {
+    pub text: &'a [u8],
+    pub starts: [usize; 66],
+    pub gates: usize,
 }
 
-fn no_starts() -> Starts
-    ensures { result.at ≡ replicate 66 0 }
-{
-    Starts {
-        at: [0usize; 66],
-        lines: 0,
-    }
-}
-
-fn index(text: &[u8], at: &mut [usize; 66]) -> usize
-    ensures { Writes (line_starts text.now) at.old at.new result }
-{
-    index_lines(text, at)
-}
-
-// Where the lines of a text begin, and how many there are.
-pub fn starts_of(text: &[u8]) -> Starts
-    ensures { result ≡ starts_of text.now }
-{
-    let mut s = no_starts();
-    let n = index(text, &mut s.at);
-    s.lines = n;
-    s
-}
-
-fn start_at(starts: Starts, i: usize) -> usize
-    ensures { result ≡ get_or starts.at (i + 1) 0 }
-{
-    if i < 65 { starts.at[i + 1] } else { 0 }
-}
-
-// Gate line i.
-pub fn line_at(text: &[u8], starts: Starts, i: usize) -> &[u8]
-    ensures { result.now ≡ line_at text.now starts.at i }
-{
-    line_from(text, start_at(starts, i))
-}
-
-// The number of the region with a name among those of n gates, or how many these are; 64 where it is more.
-pub fn number_of(text: &[u8], starts: Starts, n: usize, x: &[u8]) -> usize
-    ensures { result ≡ min 64 (number_of (regions_at text.now starts.at n) x.now) }
-{
-    let mut base = 0;
-    let mut i = 0;
-    while i < n {
-        let line = line_at(text, starts, i);
-        let m = region_count(line);
-        let q = find_region(line, x);
-        if 64 - base <= q {
-            return 64;
+impl<'a> Table<'a> {
+    // A text as a table with all its gates.
+    pub fn new(text: &'a [u8]) -> Table<'a>
+        ensures text { result.text.now ≡ text.now }
+        ensures starts { result.starts ≡ starts_of text.now }
+        ensures gates { result.gates ≡ gate_count text.now }
+    {
+        let mut starts = [0; 66];
+        let lines = index_lines(text, &mut starts);
+        Table {
+            text,
+            starts,
+            gates: lines.saturating_sub(1),
         }
-        if q < m {
-            return base + q;
-        }
-        base += m;
-        i += 1;
     }
-    base
-}
 
-// How many regions n gates have; 64 where these are more.
-pub fn region_total(text: &[u8], starts: Starts, n: usize) -> usize
-    ensures { result ≡ min 64 (length (regions_at text.now starts.at n)) }
-{
-    let mut total = 0;
-    let mut i = 0;
-    while i < n {
-        let m = region_count(line_at(text, starts, i));
-        if 64 - total <= m {
-            return 64;
+    // The same with at most so many gates.
+    pub fn up_to(self, most: usize) -> Table<'a>
+        ensures text { result.text.now ≡ self.entry.text.now }
+        ensures starts { result.starts ≡ self.entry.starts }
+        ensures gates { result.gates ≡ min self.entry.gates most }
+    {
+        Table {
+            gates: self.gates.min(most),
+            ..self
         }
-        total += m;
-        i += 1;
     }
-    total
+
+    // Gate line i.
+    pub fn line(&self, i: usize) -> &'a [u8]
+        ensures { result.now ≡ line_at self.now.text.now self.now.starts i }
+    {
+        let start = if i < 65 { self.starts[i + 1] } else { 0 };
+        line_from(self.text, start)
+    }
+
+    // The number of the region with a name, or how many regions there are; 64 where it is more.
+    pub fn number_of(&self, name: &[u8]) -> usize
+        ensures { result ≡ min 64 (number_of (regions_at self.now.text.now self.now.starts self.now.gates) name.now) }
+    {
+        let mut base = 0;
+        for i in 0..self.gates {
+            let line = self.line(i);
+            let m = region_count(line);
+            let q = find_region(line, name);
+            if 64 - base <= q {
+                return 64;
+            }
+            if q < m {
+                return base + q;
+            }
+            base += m;
+        }
+        base
+    }
+
+    // How many regions there are; 64 where these are more.
+    pub fn region_total(&self) -> usize
+        ensures { result ≡ min 64 (length (regions_at self.now.text.now self.now.starts self.now.gates)) }
+    {
+        let mut total = 0;
+        for i in 0..self.gates {
+            let m = region_count(self.line(i));
+            if 64 - total <= m {
+                return 64;
+            }
+            total += m;
+        }
+        total
+    }
 }
 
 // The set with j put into it, where b holds.

@@ -1,19 +1,25 @@
 -- Laws of the lines of a plan's text: the lowest that cannot be read, and the words of those that can.
 use mathlib.Core.Path.{◌≡◌, refl, sym, ◌∙◌, ap}
-use mathlib.Core.Bool.{Bool, true, false, not, cond}
+use mathlib.Core.Bool.{Bool, true, not, cond, ◌&&◌}
 use mathlib.Core.List.{List, [], flat_map}
 use Prim.Native.Nat.{ℕ, ◌+◌, ◌≤◌, ◌<◌}
 use native.Mathlib.Omega.{arith}
+use lib.Dec.{ltb}
 use lib.IntN.{ℤ}
 use lib.ListN.{length, get_or, set, take, length-map, get_or-map}
 use borrow.Author.Tests.{lt-ltb, le-ltb}
+use Rattle.std.specs.Prelude.{Some}
+use Rattle.std.specs.Bool.{then_some}
+use Rattle.std.specs.List.{list_all, range_with_len}
 use Rattle.text.specs.Lines.{fields, lines, ends_in_lf}
 use Rattle.text.specs.Inner.Places.{line_from}
 use Rattle.text.specs.Output.{over}
 use Rattle.text.proofs.OutputLaws.{over-take}
 use Rattle.text.proofs.FilledLaws.{fields-few}
+use Rattle.events.specs.Inner.Answers.{above_zero}
+use Rattle.events.proofs.ListingLaws.{above-some, last-open, every-placed}
 use Rattle.events.proofs.SearchLaws.{Passed, found_number, found_below, missing_number, missing_count}
-use Rattle.runreport.specs.PlanReading.{is_word_line, word_of, word_lines, unread_line, line_words, words_of}
+use Rattle.runreport.specs.PlanReading.{is_word, is_word_line, word_of, word_lines, unread_line, line_words, words_of}
 
 -- ---- the lowest line that cannot be read
 
@@ -22,9 +28,11 @@ abbrev pub is_unread : List ℕ → Bool
 is_unread line = not (is_word_line line)
 
 module _ (s : List ℕ) (a k : ℕ) (p : Passed is_unread s a k) where
-  pub unread_found : a < length s → is_unread (line_from s a) ≡ true → k + 1 ≡ unread_line s
+  pub unread_found : a < length s → is_unread (line_from s a) ≡ true → Some (k + 1) ≡ above_zero (unread_line s)
   unfolding unread_line word_lines
-  unread_found l h = sym (rw (found_number is_unread s a k p l h, lt-ltb k (length (lines s)) (found_below is_unread s a k p l h)))
+  unread_found l h =
+      let e : unread_line s ≡ k + 1 = rw (found_number is_unread s a k p l h, lt-ltb k (length (lines s)) (found_below is_unread s a k p l h)) in
+      rw e (sym (above-some (k + 1) (omega arith)))
 
   module _ (l : length s ≤ a) where
     all_words : unread_line s ≡ cond (ends_in_lf s) 0 k
@@ -33,13 +41,15 @@ module _ (s : List ℕ) (a k : ℕ) (p : Passed is_unread s a k) where
         let m = missing_count is_unread s a k p l in
         rw (missing_number is_unread s a k p l, m, le-ltb k k (omega arith))
 
-    pub unread_none : ends_in_lf s ≡ true → 0 ≡ unread_line s
-    unread_none e = sym (all_words ∙ rw e)
-
-    pub unread_open : ends_in_lf s ≡ false → k ≡ unread_line s
-    unread_open e = sym (all_words ∙ rw e)
+    -- the last line, where it is without LF
+    pub unread_open : then_some (ltb 0 k && not (ends_in_lf s)) k ≡ above_zero (unread_line s)
+    unread_open = rw all_words (last-open (ends_in_lf s) k)
 
 -- ---- the words of a line
+
+pub words-tested : (l : List ℕ) {n : ℕ} → n ≡ length (fields l) → list_all (λ k. is_word (get_or (fields l) k [])) (range_with_len 0 n) ≡ is_word_line l
+unfolding is_word_line
+words-tested l e = rw e (every-placed is_word [] (fields l))
 
 pub line_words-length : (l : List ℕ) → length (line_words l) ≡ length (fields l)
 unfolding line_words

@@ -2,31 +2,17 @@
 use mathlib.Core.Path.{◌≡◌, refl, sym, ◌∙◌, ap}
 use mathlib.Core.Bool.{Bool, true, false, cond, ◌&&◌, ◌||◌}
 use mathlib.Core.Logic.{⊎_elim}
-use mathlib.Core.List.{List, [], ◌∷◌}
-use Prim.Native.Nat.{ℕ, zero, suc, ◌+◌, ◌-◌, ◌*◌, ◌≤◌, ◌<◌, min}
+use mathlib.Core.List.{List}
+use Prim.Native.Nat.{ℕ, zero, suc, ◌≤◌, ◌<◌, min}
 use native.Mathlib.Nat.{eq-or-lt_of_le}
 use native.Mathlib.Omega.{arith}
 use lib.Dec.{ltb, eqb}
 use lib.IntN.{ℤ, pos, negsuc}
-use lib.ListN.{length, get_or, drop}
 use borrow.Author.Tests.{lt-ltb, le-ltb, le-leb, lt-leb, eq-eqb, ne_eqb}
 use Rattle.integers.specs.Range.{in_range}
 use Rattle.text.specs.Numbers.{is_negative, unsigned, is_number, digits_value, signed, number_value}
 use Rattle.text.proofs.TestLaws.{true≢false, lt_or_ge}
-use Rattle.text.proofs.BytesLaws.{rest_cons}
 use Rattle.runreport.specs.PlanReading.{fits_word, is_word, word_of}
-
--- ---- digits, cut at 2^32 − 1
-
--- a value that is cut on the way is cut at the end
-digits-cut : (v w : ℕ) (s : List ℕ) → min v 4294967295 ≡ min w 4294967295 → min (digits_value v s) 4294967295 ≡ min (digits_value w s) 4294967295
-digits-cut v w [] h = h
-digits-cut v w (c ∷ s) h = digits-cut (v * 10 + (c - 48)) (w * 10 + (c - 48)) s (omega arith)
-
-pub digits_more : (v i : ℕ) (s : List ℕ) → i < length s
-    → min (digits_value v (drop i s)) 4294967295 ≡ min (digits_value (min (v * 10 + (get_or s i 0 - 48)) 4294967295) (drop (i + 1) s)) 4294967295
-digits_more v i s h = rw (rest_cons s i 0 h)
-    (digits-cut (v * 10 + (get_or s i 0 - 48)) (min (v * 10 + (get_or s i 0 - 48)) 4294967295) (drop (i + 1) s) (omega arith))
 
 -- ---- what fits
 

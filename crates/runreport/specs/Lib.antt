@@ -1,4 +1,3 @@
 -- What `gaterun` reads and prints.
 pub mod PlanReading
 pub mod Running
-pub mod Inner

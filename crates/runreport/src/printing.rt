@@ -1,5 +1,5 @@
 // The lines of a run, written into a slice that is lent.
-ghost use Rattle.std.specs.Prelude.{◌≡◌, ◌≤◌, get_or};
+ghost use Rattle.std.specs.Prelude.{◌≡◌, ◌≤◌};
 ghost use Rattle.text.specs.Output.{Writes};
 ghost use Rattle.runreport.specs.Running.{number_lines, numbered_tally, unread_text};
 
@@ -13,34 +13,25 @@ pub fn put_unread(out: &mut [u8], line: u64) -> usize
     put_count_from(out, 0, b"unread", line)
 }
 
-// The count of region r.
-fn count_at(tally: Tally, r: usize) -> u64
-    ensures { result ≡ get_or tally.counts r 0 }
-{
-    if r < 64 { tally.counts[r] } else { 0 }
-}
-
 // Writes the lines of the regions below k over the beginning of out, as far as it goes, and answers how long they are.
-fn put_regions(out: &mut [u8], k: usize, tally: Tally) -> usize
+fn put_regions(out: &mut [u8], k: usize, counts: &[u64; 64]) -> usize
     requires { k ≤ 64 }
-    ensures { (Writes (number_lines tally.counts k) out.old out.new result) × (result ≤ 2688) }
+    ensures { (Writes (number_lines counts.now k) out.old out.new result) × (result ≤ 2688) }
 {
     let mut at: usize = 0;
-    let mut r = 0;
-    while r < k {
+    for r in 0..k {
         at += put_number_from(out, at, r as u64);
-        at += put_count_from(out, at, b"", count_at(tally, r));
-        r += 1;
+        at += put_count_from(out, at, b"", counts[r]);
     }
     at
 }
 
 // Writes the lines of a tally by a plan of k steps.
-pub fn put_tally(out: &mut [u8], k: usize, tally: Tally) -> usize
+pub fn put_tally(out: &mut [u8], k: usize, tally: &Tally) -> usize
     requires { k ≤ 64 }
-    ensures { Writes (numbered_tally k tally) out.old out.new result }
+    ensures { Writes (numbered_tally k tally.now) out.old out.new result }
 {
-    let a = put_regions(out, k, tally);
+    let a = put_regions(out, k, &tally.counts);
     let b = a + put_taken(out, a, tally.taken);
     b + put_spoilt(out, b, tally.spoilt)
 }

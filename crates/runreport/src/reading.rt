@@ -1,33 +1,20 @@
 // The words of a plan's text.
-ghost use Rattle.std.specs.Prelude.{◌≡◌, cond, ◌+◌, ◌-◌, ◌*◌, ◌≤◌, min, pos, length, set};
+ghost use Rattle.std.specs.Prelude.{◌≡◌, cond, ◌+◌, ◌≤◌, min, pos, length};
 ghost use Rattle.text.specs.Numbers.{digits_value, signed};
 ghost use Rattle.text.specs.Output.{Writes};
 ghost use Rattle.text.specs.Inner.Writing.{WritesFrom};
+ghost use Rattle.events.specs.Inner.Answers.{above_zero};
 ghost use Rattle.runreport.specs.PlanReading.{fits_word, is_word, word_of, is_word_line, unread_line, line_words, words_of};
 
 use text::lines::{ends_in_lf, field, field_count, find, line_from};
-use text::numbers::{digit_value, is_number, negative, unsigned};
-use text::output::lesser;
-
-// One digit more, and at most 2^32 - 1.
-fn grown(v: u32, c: u8) -> u32
-    ensures { result ≡ min (v * 10 + (c - 48)) 4294967295 }
-{
-    let w = v as u64 * 10 + digit_value(c);
-    if w < 4294967295 { w as u32 } else { 4294967295 }
-}
+use text::numbers::{is_number, negative, unsigned, value_at_most};
+use text::output::{put, put_from};
 
 // The value of some digits, and at most 2^32 - 1.
 fn magnitude(s: &[u8]) -> u32
     ensures { result ≡ min (digits_value 0 s.now) 4294967295 }
 {
-    let mut v: u32 = 0;
-    let mut i = 0;
-    while i < s.len() {
-        v = grown(v, s[i]);
-        i += 1;
-    }
-    v
+    value_at_most::<4294967295>(s)
 }
 
 // Whether n, or -n where b holds, fits 32 bits.
@@ -68,43 +55,23 @@ fn read_word(s: &[u8]) -> i32
 fn is_word_line(line: &[u8]) -> bool
     ensures { result ≡ is_word_line line.now }
 {
-    let n = field_count(line);
-    let mut k = 0;
-    while k < n {
-        if !is_word(field(line, k)) {
-            return false;
-        }
-        k += 1;
-    }
-    true
+    (0..field_count(line)).all(|k| is_word(field(line, k)))
 }
 
-// The lowest line that cannot be read, counted from 1; 0 where there is none.
-pub fn unread_line(part: &[u8]) -> usize
-    ensures { result ≡ unread_line part.now }
+// The lowest line that cannot be read, counted from 1, if there is one.
+pub fn unread_line(part: &[u8]) -> Option<usize>
+    ensures { result ≡ above_zero (unread_line part.now) }
 {
     let mut at = 0;
     let mut k: usize = 0;
     while at < part.len() {
         if !is_word_line(line_from(part, at)) {
-            return k + 1;
+            return Some(k + 1);
         }
         at = find(part, at, b'\n') + 1;
         k += 1;
     }
-    if !ends_in_lf(part) {
-        return k;
-    }
-    0
-}
-
-// Puts w at index i, where there is one.
-fn put_word(words: &mut [i32], i: usize, w: i32)
-    ensures { words.new ≡ set words.old i w }
-{
-    if i < words.len() {
-        words[i] = w;
-    }
+    ((0 < k) & !ends_in_lf(part)).then_some(k)
 }
 
 // Writes the words of a line over the beginning of rest, as far as it goes, and answers how many there are.
@@ -112,20 +79,17 @@ fn put_line(rest: &mut [i32], line: &[u8]) -> usize
     ensures { Writes (line_words line.now) rest.old rest.new result }
 {
     let n = field_count(line);
-    let mut k = 0;
-    while k < n {
-        put_word(rest, k, read_word(field(line, k)));
-        k += 1;
+    for k in 0..n {
+        put(rest, k, read_word(field(line, k)));
     }
-    k
+    n
 }
 
 // The same from index a on.
 fn put_line_from(words: &mut [i32], a: usize, line: &[u8]) -> usize
     ensures { WritesFrom a (line_words line.now) words.old words.new result }
 {
-    let b = lesser(a, words.len());
-    put_line(&mut words[b..], line)
+    put_from(words, a, |rest: &mut [i32]| put_line(rest, line))
 }
 
 // Writes the words of a plan's text over the beginning of plan, as far as it goes, and answers how many there are.

@@ -22,25 +22,25 @@ use Rattle.sheet.specs.Inner.Counts.{tallies_of}
 
 -- the first r counts are written over the beginning
 abbrev pub CountsTo : Tally → List ℕ → ℕ → List ℕ → Type 0
-CountsTo t d r x = (r ≤ 64) × (x ≡ over (take r t.counts) d)
+CountsTo t d r x = x ≡ over (take r t.counts) d
 
 module _ (t : Tally) (d : List ℕ) (long : length t.counts ≡ 64) where
   pub counts-none : CountsTo t d 0 d
   unfolding over
-  counts-none = (omega arith, refl)
+  counts-none = refl
 
   pub counts-more : (r : ℕ) → r < 64 → {x : List ℕ} → CountsTo t d r x → {y : List ℕ} {v : ℕ} → v ≡ get_or t.counts r 0 → y ≡ set x r v
       → CountsTo t d (r + 1) y
-  counts-more r l w e f = (omega arith, f ∙ rw (w.1, e) (over-take t.counts d r 0 (omega (arith, long))))
+  counts-more r l w e f = f ∙ rw (w, e) (over-take t.counts d r 0 (omega (arith, long)))
 
   -- then the taken, the spoilt, the unclaimed
-  pub numbers-written : (r : ℕ) → 64 ≤ r → {x : List ℕ} → CountsTo t d r x → {y z a : List ℕ} {u v n : ℕ} → u ≡ t.taken → y ≡ set x 64 u
+  pub numbers-written : {x : List ℕ} → CountsTo t d 64 x → {y z a : List ℕ} {u v n : ℕ} → u ≡ t.taken → y ≡ set x 64 u
       → v ≡ t.spoilt → z ≡ set y 65 v → n ≡ t.unclaimed → a ≡ set z 66 n
       → (67 ≡ length (numbers_of t)) × (a ≡ over (numbers_of t) d)
   unfolding numbers_of
-  numbers-written r l w {y} {z} e f g h i j =
+  numbers-written w {y} {z} e f g h i j =
       let a : y ≡ over (t.counts ++ (t.taken ∷ [])) d =
-      f ∙ rw (w.1, e, take_all r t.counts (omega (arith, long))) (over-more-at t.counts d 64 t.taken long) in
+      f ∙ rw (w, e, take_all 64 t.counts (omega (arith, long))) (over-more-at t.counts d 64 t.taken long) in
       let b : (t.counts ++ (t.taken ∷ [])) ++ (t.spoilt ∷ []) ≡ t.counts ++ (t.taken ∷ t.spoilt ∷ []) = simp append_assoc in
       let c = over-more-at (t.counts ++ (t.taken ∷ [])) d 65 t.spoilt (simp length-append (omega (arith, long))) in
       let s : z ≡ over (t.counts ++ (t.taken ∷ t.spoilt ∷ [])) d = h ∙ rw (a, g) (c ∙ rw b) in

@@ -12,9 +12,6 @@ use Rattle.text.proofs.TestLaws.{passed_or_failed}
 use Rattle.text.proofs.LinesLaws.{find_inside}
 use Rattle.tables.specs.Columns.{is_right, columns_verdict}
 use Rattle.tables.proofs.ColumnTheorems.{verdict-right}
-use Rattle.heads.specs.Answers.{columns_said}
-use Rattle.heads.specs.declared.Columns.{Columns}
-use Rattle.heads.specs.declared.Columns.TheVariants.{Right, Wrong}
 use Rattle.events.specs.Listing.{opens}
 use Rattle.events.specs.Inner.Columns.{columns_from}
 use Rattle.events.proofs.ColumnLaws.{columns-here, columns-past, columns_end}
@@ -55,19 +52,19 @@ module _ (table part : List ℕ) where
       go (inl t) = absurd (let z : ◌≡◌ {A = ℕ} 0 31 = ap (λ (v : Verdict). v.number) (sym ((verdict-right table line).1 t) ∙ e) in omega arith)
       go (inr t) = rw t (rw t at e)
 
-  module _ (a : ℕ) (headed : Bool) (p : Tested table part a headed) (l : a ≤ length part) {t : Columns}
-      (is : columns_said t ≡ columns_verdict table (as_columns headed (line_from part a))) where
-    pub tested-more : t ≡ Right → {e : ℕ} → e ≡ find_from part a 10 → Tested table part (e + 1) (not headed && opens true (line_from part a))
-    tested-more r f =
+  module _ (a : ℕ) (headed : Bool) (p : Tested table part a headed) (l : a ≤ length part) where
+    pub tested-more : passed ≡ columns_verdict table (as_columns headed (line_from part a)) → {e : ℕ} → e ≡ find_from part a 10
+        → Tested table part (e + 1) (not headed && opens true (line_from part a))
+    tested-more is f =
         record {
           inside = omega (arith, f, find_inside part a 10 l);
-          rest =
-              p.rest ∙ ap (columns_verdict table) (line_first a headed l) ∙ right_then headed (line_from part a) _ (sym is ∙ ap columns_said r) ∙ rw f;
+          rest = p.rest ∙ ap (columns_verdict table) (line_first a headed l) ∙ right_then headed (line_from part a) _ (sym is) ∙ rw f;
         }
 
-    pub tested-wrong : {field : ℕ} → t ≡ Wrong field → refused 31 field ≡ columns_verdict table (columns_from true true part 0)
-    tested-wrong {field} w =
-        sym (p.rest ∙ ap (columns_verdict table) (line_first a headed l) ∙ wrong_then headed (line_from part a) _ field (sym is ∙ ap columns_said w))
+    pub tested-wrong : {field : ℕ} → refused 31 field ≡ columns_verdict table (as_columns headed (line_from part a))
+        → refused 31 field ≡ columns_verdict table (columns_from true true part 0)
+    tested-wrong {field} is =
+        sym (p.rest ∙ ap (columns_verdict table) (line_first a headed l) ∙ wrong_then headed (line_from part a) _ field (sym is))
 
   pub tested-all : (a : ℕ) (headed : Bool) → Tested table part a headed → length part < a → passed ≡ columns_verdict table (columns_from true true part 0)
   tested-all a headed p l = sym (p.rest ∙ ap (columns_verdict table) (columns_end true part a headed l))

@@ -1,5 +1,5 @@
 // Counting the lists of an input by a plan: the numbers of each, and their sum.
-ghost use Rattle.std.specs.Prelude.{◌≡◌, ◌≤◌, length, set};
+ghost use Rattle.std.specs.Prelude.{◌≡◌, ◌≤◌, length};
 ghost use Rattle.text.specs.Output.{Writes};
 ghost use Rattle.text.specs.Inner.Writing.{WritesFrom};
 ghost use Rattle.counter.specs.Counting.{count_of};
@@ -11,11 +11,11 @@ ghost use Rattle.sheet.specs.Inner.Counts.{SomeEvents, SomeLists, CountedLists};
 
 use counter::counting::count;
 use counter::{Tally, no_tally};
-use events::listing::{put_lines, rest_from};
+use events::listing::put_lines;
 use events::parting::split;
 use tallies::sum;
 use text::lines::find;
-use text::output::lesser;
+use text::output::{put, put_from, rest_from};
 
 // How many lists there are, and the sum of their tallies.
 #[derive(Clone, Copy)]
@@ -24,28 +24,17 @@ pub struct Counts {
     pub total: Tally,
 }
 
-// Puts x at index i, where there is one.
-fn put_at(numbers: &mut [u32], i: usize, x: u32)
-    ensures { numbers.new ≡ set numbers.old i x }
-{
-    if i < numbers.len() {
-        numbers[i] = x;
-    }
-}
-
 // Writes the numbers of a tally over the beginning of rest, as far as it goes, and answers how many there are.
 fn put_numbers(rest: &mut [u32], tally: Tally) -> usize
     requires { Within 32768 tally }
     ensures { Writes (numbers_of tally) rest.old rest.new result }
 {
-    let mut r = 0;
-    while r < 64 {
-        put_at(rest, r, tally.counts[r] as u32);
-        r += 1;
+    for r in 0..64 {
+        put(rest, r, tally.counts[r] as u32);
     }
-    put_at(rest, 64, tally.taken as u32);
-    put_at(rest, 65, tally.spoilt as u32);
-    put_at(rest, 66, tally.unclaimed as u32);
+    put(rest, 64, tally.taken as u32);
+    put(rest, 65, tally.spoilt as u32);
+    put(rest, 66, tally.unclaimed as u32);
     67
 }
 
@@ -54,8 +43,7 @@ fn put_numbers_from(columns: &mut [u32], a: usize, tally: Tally) -> usize
     requires { Within 32768 tally }
     ensures { WritesFrom a (numbers_of tally) columns.old columns.new result }
 {
-    let b = lesser(a, columns.len());
-    put_numbers(&mut columns[b..], tally)
+    put_from(columns, a, |rest: &mut [u32]| put_numbers(rest, tally))
 }
 
 // The tally of the events of a text, with room for their values.
@@ -64,8 +52,10 @@ fn count_list(part: &[u8], plan: &[i32], list: &mut [i32]) -> Tally
     ensures { (result ≡ (count_of plan.now (values part.now)).tally) × Within 32768 result × (length list.new ≡ 32768) }
 {
     let m = put_lines(list, part);
-    let counted = count(plan, &list[..m]);
-    counted.tally
+    match count(plan, &list[..m]) {
+        Ok(tally) => tally,
+        Err(_) => no_tally(),
+    }
 }
 
 // Counts the lists of an input, of which the first begins at place `from`, and writes the numbers of each over the columns.
@@ -85,8 +75,7 @@ pub fn count_lists(
     while at < input.len() {
         let begin = find(input, at + 7, b'\n') + 1;
         let part = rest_from(input, begin);
-        let parted = split(part);
-        let end = parted.table;
+        let end = split(part).table;
         let tally = count_list(&part[..end], plan, list);
         put_numbers_from(columns, lists * 67, tally);
         total = sum(total, tally);

@@ -11,72 +11,52 @@ ghost use Rattle.resolve.specs.Inner.Reading.{gates_at};
 ghost use Rattle.events.specs.Printing.{number_field, numbers_line};
 ghost use Rattle.report.specs.Report.{region_lines};
 ghost use Rattle.report.specs.Inner.Short.{Printable};
-ghost use Rattle.sheet.specs.Inner.Columns.{column_of};
-ghost use Rattle.sheet.specs.Inner.Numbers.{count_by, numbers_by, summaries_by, lines_by, Placed};
+ghost use Rattle.sheet.specs.Inner.Numbers.{column, count_by, numbers_by, summaries_by, lines_by, Placed};
 
+use crate::numbers::Columns;
 use counter::Tally;
 use events::printing::{put_bytes_from, put_count_from, put_field_from};
-use resolve::{Starts, starts_of};
+use resolve::Table;
 use stepwriter::parent_at;
 use tableregions::name_at;
 
-// A number of 32 bits in 64.
-fn wide(x: u32) -> u64
-    ensures { result ≡ x }
-{
-    x as u64
-}
-
-// Number i of the columns.
-fn number_at(columns: &[u32], i: usize) -> u64
-    ensures { result ≡ get_or columns.now i 0 }
-{
-    if i < columns.len() {
-        wide(columns[i])
-    } else {
-        0
-    }
-}
-
 // The count of the region of that number; the number taken for 64.
-fn count_by(tally: Tally, r: usize) -> u64
-    ensures { result ≡ count_by tally r }
+#[tactic(auto, unfolding(crate::specs::Inner::Numbers::count_by))]
+fn count_by(tally: &Tally, r: usize) -> u64
+    ensures { result ≡ count_by tally.now r }
 {
-    if r < 64 { tally.counts[r] } else { tally.taken }
+    tally.counts.get(r).copied().unwrap_or(tally.taken)
 }
 
-// Writes number r of each of k lists from index `at` on, as far as out goes, and answers how many bytes they are.
-fn put_column(out: &mut [u8], at: usize, columns: &[u32], k: usize, r: usize) -> usize
-    requires { (at ≤ 2000000000) × (k ≤ 9362) × (r < 67) }
-    ensures writes_from { WritesFrom at (flat_map number_field (column_of columns.now k r)) out.old out.new result }
-    ensures upper_bound { result ≤ 21 * k }
+// Writes number r of each list from index `at` on, as far as out goes, and answers how many bytes they are.
+fn put_column(out: &mut [u8], at: usize, columns: &Columns, r: usize) -> usize
+    requires { (at ≤ 2000000000) × (r < 67) }
+    ensures writes_from { WritesFrom at (flat_map number_field (column columns.now r)) out.old out.new result }
+    ensures within { result ≤ 21 * columns.now.lists }
 {
     let mut bytes: usize = 0;
-    let mut j = 0;
-    while j < k {
-        bytes += put_field_from(out, at + bytes, number_at(columns, j * 67 + r));
-        j += 1;
+    for j in 0..columns.lists {
+        bytes += put_field_from(out, at + bytes, columns.number(j, r));
     }
     bytes
 }
 
-// Writes a name, number r of each of k lists and their sum from index `at` on: the beginning of a line.
+// Writes a name, number r of each list and their sum from index `at` on: the beginning of a line.
 fn put_listed(
     out: &mut [u8],
     at: usize,
     name: &[u8],
-    columns: &[u32],
-    k: usize,
+    columns: &Columns,
     r: usize,
     sum: u64,
 ) -> usize
-    requires { Placed at k r × (length name.now ≤ 16) }
-    ensures writes_from { WritesFrom at (name.now ++ (flat_map number_field (column_of columns.now k r) ++ number_field sum))
+    requires { Placed at r × (length name.now ≤ 16) }
+    ensures writes_from { WritesFrom at (name.now ++ (flat_map number_field (column columns.now r) ++ number_field sum))
         out.old out.new result }
-    ensures upper_bound { result ≤ 21 * k + 37 }
+    ensures within { result ≤ 21 * columns.now.lists + 37 }
 {
     let a = put_bytes_from(out, at, name);
-    let b = a + put_column(out, at + a, columns, k, r);
+    let b = a + put_column(out, at + a, columns, r);
     b + put_field_from(out, at + b, sum)
 }
 
@@ -85,19 +65,18 @@ fn put_region(
     out: &mut [u8],
     at: usize,
     name: &[u8],
-    columns: &[u32],
-    k: usize,
+    columns: &Columns,
     r: usize,
-    total: Tally,
+    total: &Tally,
     parent: usize,
 ) -> usize
-    requires { Placed at k r × (length name.now ≤ 16) × (r ≤ 63) }
-    ensures writes_from { WritesFrom at (numbers_line name.now (column_of columns.now k r
-        ++ (get_or total.counts r 0 ∷ get_or total.counts r 0 ∷ count_by total parent ∷ []))) out.old out.new result }
-    ensures upper_bound { result ≤ 21 * k + 80 }
+    requires { Placed at r × (length name.now ≤ 16) × (r ≤ 63) }
+    ensures writes_from { WritesFrom at (numbers_line name.now (column columns.now r
+        ++ (get_or total.now.counts r 0 ∷ get_or total.now.counts r 0 ∷ count_by total.now parent ∷ []))) out.old out.new result }
+    ensures within { result ≤ 21 * columns.now.lists + 80 }
 {
     let count = count_by(total, r);
-    let a = put_listed(out, at, name, columns, k, r, count);
+    let a = put_listed(out, at, name, columns, r, count);
     let b = a + put_field_from(out, at + a, count);
     let c = b + put_field_from(out, at + b, count_by(total, parent));
     c + put_bytes_from(out, at + c, b"\n")
@@ -108,73 +87,53 @@ fn put_summary(
     out: &mut [u8],
     at: usize,
     name: &[u8],
-    columns: &[u32],
-    k: usize,
+    columns: &Columns,
     r: usize,
     sum: u64,
 ) -> usize
-    requires { Placed at k r × (length name.now ≤ 16) }
-    ensures writes_from { WritesFrom at (numbers_line name.now (column_of columns.now k r ++ (sum ∷ [])))
+    requires { Placed at r × (length name.now ≤ 16) }
+    ensures writes_from { WritesFrom at (numbers_line name.now (column columns.now r ++ (sum ∷ [])))
         out.old out.new result }
-    ensures upper_bound { result ≤ 21 * k + 38 }
+    ensures within { result ≤ 21 * columns.now.lists + 38 }
 {
-    let a = put_listed(out, at, name, columns, k, r, sum);
+    let a = put_listed(out, at, name, columns, r, sum);
     a + put_bytes_from(out, at + a, b"\n")
 }
 
-// Writes the lines of the first m regions of n gates over the beginning of out, as far as it goes, and answers how long they are.
-fn put_regions(
-    out: &mut [u8],
-    text: &[u8],
-    starts: Starts,
-    n: usize,
-    m: usize,
-    columns: &[u32],
-    k: usize,
-    total: Tally,
-) -> usize
-    requires { Printable (regions (gates_at text.now starts.at n)) m × (k ≤ 9362) }
-    ensures writes { Writes (region_lines (regions (gates_at text.now starts.at n))
-        (numbers_by (regions (gates_at text.now starts.at n)) columns.now k total) m) out.old out.new result }
-    ensures upper_bound { result ≤ 12800000 }
+// Writes the lines of the first m regions of a table over the beginning of out, as far as it goes, and answers how long they are.
+fn put_regions(out: &mut [u8], table: &Table, m: usize, columns: &Columns, total: &Tally) -> usize
+    requires { Printable (regions (gates_at table.now.text.now table.now.starts table.now.gates)) m }
+    ensures writes { Writes (region_lines (regions (gates_at table.now.text.now table.now.starts table.now.gates))
+        (numbers_by (regions (gates_at table.now.text.now table.now.starts table.now.gates)) columns.now.numbers.now columns.now.lists total.now) m)
+        out.old out.new result }
+    ensures within { result ≤ 12800000 }
 {
     let mut at: usize = 0;
-    let mut r = 0;
-    while r < m {
-        let name = name_at(text, starts, n, r);
-        let parent = parent_at(text, starts, n, r);
-        at += put_region(out, at, name, columns, k, r, total, parent);
-        r += 1;
+    for r in 0..m {
+        let name = name_at(table, r);
+        let parent = parent_at(table, r);
+        at += put_region(out, at, name, columns, r, total, parent);
     }
     at
 }
 
 // Writes the lines that follow the regions, from index `at` on: this function decides which they are.
-fn put_summaries(out: &mut [u8], at: usize, columns: &[u32], k: usize, total: Tally) -> usize
-    requires { (at ≤ 12800000) × (k ≤ 9362) }
-    ensures writes_from { WritesFrom at (summaries_by columns.now k total) out.old out.new result }
-    ensures upper_bound { result ≤ 600000 }
+fn put_summaries(out: &mut [u8], at: usize, columns: &Columns, total: &Tally) -> usize
+    requires { at ≤ 12800000 }
+    ensures writes_from { WritesFrom at (summaries_by columns.now.numbers.now columns.now.lists total.now) out.old out.new result }
+    ensures within { result ≤ 600000 }
 {
-    let a = put_summary(out, at, b"taken", columns, k, 64, total.taken);
-    let b = a + put_summary(out, at + a, b"unclaimed", columns, k, 66, total.unclaimed);
-    b + put_summary(out, at + b, b"spoilt", columns, k, 65, total.spoilt)
+    let a = put_summary(out, at, b"taken", columns, 64, total.taken);
+    let b = a + put_summary(out, at + a, b"unclaimed", columns, 66, total.unclaimed);
+    b + put_summary(out, at + b, b"spoilt", columns, 65, total.spoilt)
 }
 
 // Writes the lines of a sheet over the beginning of out, as far as it goes, by an accepted table with m regions.
-pub fn put_sheet(
-    out: &mut [u8],
-    text: &[u8],
-    m: usize,
-    columns: &[u32],
-    k: usize,
-    total: Tally,
-) -> usize
-    requires { ((table_verdict 4096 text.now).number ≡ 0) × (m ≡ length (regions (gates text.now))) × (k ≤ 9362) × Within 1000000000 total }
-    ensures { Writes (lines_by text.now columns.now k total) out.old out.new result }
+pub fn put_sheet(out: &mut [u8], text: &[u8], m: usize, columns: &Columns, total: &Tally) -> usize
+    requires { ((table_verdict 4096 text.now).number ≡ 0) × (m ≡ length (regions (gates text.now))) × Within 1000000000 total.now }
+    ensures { Writes (lines_by text.now columns.now.numbers.now columns.now.lists total.now) out.old out.new result }
 {
-    let starts = starts_of(text);
-    let n = starts.lines - 1;
-    let a = put_regions(out, text, starts, n, m, columns, k, total);
-    let b = a + put_summaries(out, a, columns, k, total);
+    let a = put_regions(out, &Table::new(text), m, columns, total);
+    let b = a + put_summaries(out, a, columns, total);
     b + put_count_from(out, b, b"events", total.taken + total.spoilt)
 }

@@ -1,4 +1,8 @@
 -- A cursor over the gate lines, the answers one after the other, and the verdict of a table.
+use Rattle.std.proofs.Common.{Result, Ok, Err}
+use Rattle.gates.specs.LineRefusals.{line_refusal_number, earned_number}
+use Rattle.gates.specs.declared.LineRefusal.{LineRefusal}
+use Rattle.gates.specs.declared.LineRefusal.TheVariants.{UnknownKind, WrongShape, BadName, BadNumber, OffScale, BadDimension, CrossedBounds, BadMatrix, NoTiling}
 use mathlib.Core.Path.{◌≡◌, refl, sym, ap, ◌∙◌}
 use mathlib.Core.Bool.{Bool, true, false}
 use mathlib.Core.List.{List, [], ◌∷◌}
@@ -22,6 +26,23 @@ use Rattle.tables.specs.Steps.{plan_words}
 use Rattle.tables.specs.Refusals.{unless_line, refusal_at, line_good, size_verdict, gates_verdict, table_verdict}
 use Rattle.tablecheck.specs.Inner.Names.{GoodLines}
 use Rattle.tablecheck.specs.Inner.TextVerdict.{names_verdict, lines_verdict, text_verdict}
+
+-- ---- what a line earns
+
+refusal-listed : (x : LineRefusal) → line_refusal_number x ≡ 99 → ⊥
+refusal-listed UnknownKind e = omega arith
+refusal-listed WrongShape e = omega arith
+refusal-listed BadName e = omega arith
+refusal-listed BadNumber e = omega arith
+refusal-listed OffScale e = omega arith
+refusal-listed BadDimension e = omega arith
+refusal-listed CrossedBounds e = omega arith
+refusal-listed BadMatrix e = omega arith
+refusal-listed NoTiling e = omega arith
+
+none_earned : (r : Result Unit LineRefusal) → ((x : LineRefusal) → r ≡ Err x → ⊥) → earned_number r ≡ 99
+none_earned (Ok u) h = refl
+none_earned (Err x) h = absurd (h x refl)
 
 -- the first gate line from i on that 4 to 12 refuse, or their number
 abbrev first_from : List ℕ → ℕ → ℕ
@@ -84,24 +105,26 @@ module _ (text : List ℕ) where
           let z : i + 0 ≡ i = omega arith in
           sym (sym (ap (λ (ls : List (List ℕ)). get_or ls 0 []) cut) ∙ get_or-drop i (gate_lines text) 0 [] ∙ rw z)
 
-      module _ {head line : List ℕ} (a : head ≡ get_or (lines text) 0 []) (l : line ≡ line_from text at) {number : ℕ}
-          (n : number ≡ line_refusal (drop 1 (fields head)) (fields line)) where
-        refusal-here : number ≡ refusal_at (dimensions text) (gate_lines text) i
+      module _ {head line : List ℕ} (a : head ≡ get_or (lines text) 0 []) (l : line ≡ line_from text at) (r : Result Unit LineRefusal)
+          (n : earned_number r ≡ line_refusal (drop 1 (fields head)) (fields line)) where
+        refusal-here : earned_number r ≡ refusal_at (dimensions text) (gate_lines text) i
         unfolding refusal_at dimensions head_fields
         refusal-here = n ∙ rw (line-here, a, l)
 
-        bad-here : (number ≡ 99 → ⊥) → first_bad (line_good (dimensions text) (gate_lines text)) 0 (length (gate_lines text)) ≡ i
+        bad-here : (earned_number r ≡ 99 → ⊥) → first_bad (line_good (dimensions text) (gate_lines text)) 0 (length (gate_lines text)) ≡ i
         unfolding line_good
         bad-here ne =
             c.first ∙ first_stop (line_good (dimensions text) (gate_lines text)) (length (gate_lines text)) i cursor_inside
-            (rw (← refusal-here) (ne_eqb number 99 ne))
+            (rw (← refusal-here) (ne_eqb (earned_number r) 99 ne))
 
-        pub line_refused : (number ≡ 99 → ⊥) → {k : ℕ} → k ≡ number → (v : Verdict) → refused k (i + 2) ≡ lines_verdict text v
+        pub line_refused : {x : LineRefusal} → r ≡ Err x → (v : Verdict) → refused (line_refusal_number x) (i + 2) ≡ lines_verdict text v
         unfolding lines_verdict unless_line
-        line_refused ne e v =
-            rw (bad-here ne, lt-ltb i (length (gate_lines text)) cursor_inside) (ap (λ (m : ℕ). refused m (i + 2)) (e ∙ refusal-here))
+        line_refused {x} e v =
+            let k : line_refusal_number x ≡ earned_number r = ap earned_number (sym e) in
+            rw (bad-here (λ z. refusal-listed x (k ∙ z)), lt-ltb i (length (gate_lines text)) cursor_inside)
+            (ap (λ (m : ℕ). refused m (i + 2)) (k ∙ refusal-here))
 
-        pub cursor_next : number ≡ 99 → {e : ℕ} → e ≡ find_from text at 10 → Cursor text (e + 1) (i + 1)
+        pub cursor_next : ((x : LineRefusal) → r ≡ Err x → ⊥) → {e : ℕ} → e ≡ find_from text at 10 → Cursor text (e + 1) (i + 1)
         unfolding line_good
         cursor_next g {e} f =
             record {
@@ -109,7 +132,7 @@ module _ (text : List ℕ) where
               behind = omega (arith, f, find_from_lem text at 10, c.behind);
               inside = omega (arith, f, find_inside text at 10 (omega arith));
               first = c.first ∙ first_more (line_good (dimensions text) (gate_lines text)) (length (gate_lines text)) i cursor_inside
-                  (rw (← refusal-here) (eq-eqb number 99 g));
+                  (rw (← refusal-here) (eq-eqb (earned_number r) 99 (none_earned r g)));
             }
 
   -- ---- the answers, one after the other

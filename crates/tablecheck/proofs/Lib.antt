@@ -4,4 +4,6 @@ pub mod CursorLaws
 pub mod RepeatLaws
 pub mod RowLaws
 pub mod CircleLaws
+pub mod FoundLaws
+pub mod ReferenceLaws
 pub mod NamesLaws

@@ -97,11 +97,3 @@ line-listed head fs =
     (either (ltb (fields_refusal head kind fs) no_refusal) (fields-listed head kind fs)
     (either (not (matrix_passes kind fs)) (of 11 (omega arith) (omega arith))
     (either (not (tiling_passes kind fs)) (of 12 (omega arith) (omega arith)) none))))
-
--- a refusal of a line is one of 4 to 12
-pub refusal-listed : (head fs : List (List ℕ)) {k : ℕ} → k ≡ line_refusal head fs → (k ≡ no_refusal → ⊥) → (4 ≤ k) × (k ≤ 12)
-refusal-listed head fs {k} e ne = go (rw e (line-listed head fs))
-  where
-    go : Listed k → (4 ≤ k) × (k ≤ 12)
-    go (h, inl l) = (h, l)
-    go (h, inr z) = absurd (ne z)

@@ -22,7 +22,7 @@ use Rattle.gates.proofs.GateLaws.{regions-some}
 use Rattle.tables.specs.Table.{up_to}
 use Rattle.tables.specs.Head.{dimensions, gate_lines, gates}
 use Rattle.tables.specs.Refusals.{unless_line, refusal_at, line_good, always, uncrowded, unrepeated, living, uncircled}
-use Rattle.resolve.specs.Inner.Reading.{fields_at, gates_at}
+use Rattle.resolve.specs.Inner.Reading.{gate_count, fields_at, gates_at}
 use Rattle.tablecheck.specs.Inner.Names.{GoodLines}
 use Rattle.tablecheck.specs.Inner.TextVerdict.{names_verdict}
 use Rattle.resolve.proofs.ReadLaws.{gates-up-to, count-more}
@@ -140,6 +140,7 @@ module _ (text starts : List ℕ) (x : Indexed text starts) where
                   ∙ unless-past (always 15) (living (gates text)) (length (gates text)) _ living-read (omega (arith, number))
                   ∙ unless-past (always 16) (uncircled (gates text)) (length (gates text)) v uncircled-read (omega (arith, number)))
 
-pub count-read : (text : List ℕ) {l k n : ℕ} → l ≡ length (lines text) → k ≡ l - 1 → n ≡ min k 65 → n ≡ min (length (gate_lines text)) 65
+-- the number of gates that are looked at
+pub count-read : (text : List ℕ) {n : ℕ} → n ≡ min (gate_count text) 65 → n ≡ min (length (gate_lines text)) 65
 unfolding gate_lines
-count-read text e f g = rw (length-drop 1 (lines text), ← e, ← f) g
+count-read text g = rw (length-drop 1 (lines text)) g

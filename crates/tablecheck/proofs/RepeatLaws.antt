@@ -1,6 +1,6 @@
 -- A gate gives a name again exactly where its line does.
 use mathlib.Core.Path.{◌≡◌, refl, sym, ap, ◌∙◌}
-use mathlib.Core.Bool.{Bool, true, false, not, ◌||◌}
+use mathlib.Core.Bool.{Bool, true, false, not, cond, ◌||◌}
 use mathlib.Core.Logic.{◌⊎◌, inl, inr}
 use mathlib.Core.List.Memᴰ
 use mathlib.Core.List.{List, [], ◌∷◌, ◌++◌, append-nil}
@@ -8,7 +8,7 @@ use Prim.Native.Nat.{ℕ, zero, suc, ◌+◌, ◌<◌}
 use native.Mathlib.Omega.{arith}
 use native.Mathlib.Numerals.{add-one}
 use native.Mathlib.Decide.{dec_lt}
-use Rattle.plans.specs.Indices.{all, any}
+use Rattle.plans.specs.Indices.{all, any, first_bad}
 use Rattle.plans.proofs.IndexLaws.{any_stop}
 use Rattle.text.proofs.TestLaws.{true≢false}
 use Rattle.gates.specs.Gate.{Name}
@@ -120,6 +120,23 @@ module _ (text starts : List ℕ) where
   pub given-none : different (given (gates_at text starts 0)) ≡ true
   unfolding gates_at different all
   given-none = refl
+
+  -- the first gate that gives a name again is the first whose line does
+  repeated_from : (n i m : ℕ) → i + m ≡ n → different (given (gates_at text starts i)) ≡ true
+      → first_bad (λ j. not (repeats_at text starts j)) i m ≡ first_bad (unrepeated (gates_at text starts n)) i m
+  unfolding first_bad
+  repeated_from n i zero e d = refl
+  repeated_from n i (suc m) e d =
+      let h : i < n = omega arith in
+      rw (unrepeated-is n i h d)
+      (go (not (repeats_at text starts i)) (λ t. repeated_from n (i + 1) m (omega arith) (sym (given-next n i h d) ∙ unrepeated-is n i h d ∙ t)))
+    where
+      go : (b : Bool) {x y : ℕ} → (b ≡ true → x ≡ y) → cond b x i ≡ cond b y i
+      go true f = f refl
+      go false f = refl
+
+  pub repeated-first : (n : ℕ) → first_bad (λ j. not (repeats_at text starts j)) 0 n ≡ first_bad (unrepeated (gates_at text starts n)) 0 n
+  repeated-first n = repeated_from n 0 n (omega arith) given-none
 
   -- ---- the tests of a line
 

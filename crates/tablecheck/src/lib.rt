@@ -1,9 +1,10 @@
 // Refusals 1 to 16 of a table.
 #![tactic(auto)]
 
-ghost use Rattle.std.specs.Prelude.{◌≡◌, ◌≤◌};
+ghost use Rattle.std.specs.Prelude.{◌≡◌};
 ghost use Rattle.plans.specs.Refusals.{Verdict};
 ghost use Rattle.gates.specs.LineRefusals.{line_refusal_number};
+ghost use Rattle.tablecheck.specs.Answers.{table_refusal};
 ghost use Rattle.tablecheck.specs.Inner.TextVerdict.{answered, lines_verdict, text_verdict};
 
 mod names;
@@ -12,75 +13,101 @@ use crate::names::names_refusal;
 use gatelines::refusal::line_refusal;
 use gates::LineRefusal;
 use heads::{head_good, head_line};
+use plans::refusals::Numbered;
 use text::lines::{ends_in_lf, find, line_from};
 
-// What is refused of a text, with its line; Fine where none of 1 to 16 applies.
-#[derive(Clone, Copy)]
-pub enum Answer {
-    Long,
-    Unended,
+// Why a table is refused, with its line.
+#[derive(Clone, Copy, Debug, PartialEq, Eq)]
+pub enum Refusal {
+    LongTable,
+    OpenLine,
     BadHead,
     // 4 to 12
     BadLine { refusal: LineRefusal, line: usize },
     Crowded { line: usize },
-    Repeated { line: usize },
-    Dead { line: usize },
-    Circled { line: usize },
-    Fine,
+    TwinName { line: usize },
+    DeadReference { line: usize },
+    Circle { line: usize },
+    LongPlan,
+    ShortSlice,
 }
 
-// The refusal with a number.
-fn refusal_of(number: u8) -> LineRefusal
-    requires { (4 ≤ number) × (number ≤ 12) }
-    ensures { line_refusal_number result ≡ number }
+fn line_refusal_number(r: LineRefusal) -> u64
+    ensures { result ≡ line_refusal_number r }
 {
-    match number {
-        4 => LineRefusal::UnknownKind,
-        5 => LineRefusal::WrongShape,
-        6 => LineRefusal::BadName,
-        7 => LineRefusal::BadNumber,
-        8 => LineRefusal::OffScale,
-        9 => LineRefusal::BadDimension,
-        10 => LineRefusal::CrossedBounds,
-        11 => LineRefusal::BadMatrix,
-        _ => LineRefusal::NoTiling,
+    match r {
+        LineRefusal::UnknownKind => 4,
+        LineRefusal::WrongShape => 5,
+        LineRefusal::BadName => 6,
+        LineRefusal::BadNumber => 7,
+        LineRefusal::OffScale => 8,
+        LineRefusal::BadDimension => 9,
+        LineRefusal::CrossedBounds => 10,
+        LineRefusal::BadMatrix => 11,
+        LineRefusal::NoTiling => 12,
+    }
+}
+
+impl Numbered for Refusal {
+    ghost verdict = { table_refusal };
+
+    fn number(self) -> u64 {
+        match self {
+            Refusal::LongTable => 1,
+            Refusal::OpenLine => 2,
+            Refusal::BadHead => 3,
+            Refusal::BadLine { refusal, .. } => line_refusal_number(refusal),
+            Refusal::Crowded { .. } => 13,
+            Refusal::TwinName { .. } => 14,
+            Refusal::DeadReference { .. } => 15,
+            Refusal::Circle { .. } => 16,
+            Refusal::LongPlan => 17,
+            Refusal::ShortSlice => 18,
+        }
+    }
+
+    fn place(self) -> u64 {
+        match self {
+            Refusal::LongTable | Refusal::OpenLine | Refusal::LongPlan | Refusal::ShortSlice => 0,
+            Refusal::BadHead => 1,
+            Refusal::BadLine { line, .. }
+            | Refusal::Crowded { line }
+            | Refusal::TwinName { line }
+            | Refusal::DeadReference { line }
+            | Refusal::Circle { line } => line as u64,
+        }
     }
 }
 
 // The first of refusals 4 to 16 that applies to a text.
-fn lines_refusal(text: &[u8]) -> Answer
+fn lines_refusal(text: &[u8]) -> Result<(), Refusal>
     ensures { (v : Verdict) → answered result v ≡ lines_verdict text.now v }
 {
     let head = head_line(text);
     let mut at = find(text, 0, b'\n') + 1;
-    let mut i = 0;
+    let mut line = 2;
     while at < text.len() {
-        let number = line_refusal(head, line_from(text, at));
-        if number != 99 {
-            let refusal = refusal_of(number);
-            return Answer::BadLine {
-                refusal,
-                line: i + 2,
-            };
+        if let Err(refusal) = line_refusal(head, line_from(text, at)) {
+            return Err(Refusal::BadLine { refusal, line });
         }
         at = find(text, at, b'\n') + 1;
-        i += 1;
+        line += 1;
     }
     names_refusal(text)
 }
 
-// The first of refusals 1 to 16 that applies to a text.
-pub fn check_table(text: &[u8]) -> Answer
+// The first of refusals 1 to 16 that applies to a text, if one does.
+pub fn check_table(text: &[u8]) -> Result<(), Refusal>
     ensures { (v : Verdict) → answered result v ≡ text_verdict text.now v }
 {
     if 32768 < text.len() {
-        return Answer::Long;
+        return Err(Refusal::LongTable);
     }
     if !ends_in_lf(text) {
-        return Answer::Unended;
+        return Err(Refusal::OpenLine);
     }
     if !head_good(text) {
-        return Answer::BadHead;
+        return Err(Refusal::BadHead);
     }
     lines_refusal(text)
 }

@@ -1,5 +1,5 @@
 // Names and references over the gate lines of a table, each of which passes 4 to 12: refusals 13 to 16.
-ghost use Rattle.std.specs.Prelude.{◌≡◌, ◌&&◌, ℕ, ◌≤◌, ◌<◌, ltb, length, get_or};
+ghost use Rattle.std.specs.Prelude.{◌≡◌, ◌&&◌, ℕ, ◌≤◌, ◌<◌, ltb, length};
 ghost use Rattle.plans.specs.Bits.{has_bit};
 ghost use Rattle.plans.specs.Indices.{first_bad};
 ghost use Rattle.plans.specs.Refusals.{Verdict};
@@ -7,174 +7,116 @@ ghost use Rattle.tables.specs.Head.{gates};
 ghost use Rattle.tables.specs.Refusals.{uncrowded, unrepeated, living, uncircled};
 ghost use Rattle.graph.specs.Inner.Rows.{bit_at};
 ghost use Rattle.resolve.specs.Inner.Reading.{gates_at, regions_at};
-ghost use Rattle.tablecheck.specs.Inner.Names.{GoodLines, repeats_at, refers_by};
+ghost use Rattle.tablecheck.specs.Inner.Names.{GoodLines, below, repeats_at, refers_by};
 ghost use Rattle.tablecheck.specs.Inner.TextVerdict.{answered, names_verdict};
 
-use crate::Answer;
-use gatefields::fields::minus;
+use crate::Refusal;
 use gatelines::regions::region_count;
-use graph::{Rows, no_rows, reach};
+use graph::{Rows, reach};
 use linenames::{has_reference, own_different, reference, reference_end, refers_to, shares_name};
 use plans::bits::has_bit;
-use resolve::{Starts, line_at, number_of, region_total, settle, starts_of};
-use text::output::lesser;
+use resolve::{Table, settle};
 
 // Whether gate i gives a name twice, or one that an earlier gate gives.
-fn repeats(text: &[u8], starts: Starts, i: usize) -> bool
-    ensures { result ≡ repeats_at text.now starts.at i }
+fn repeats(table: &Table, i: usize) -> bool
+    ensures { result ≡ repeats_at table.now.text.now table.now.starts i }
 {
-    let line = line_at(text, starts, i);
-    if !own_different(line) {
-        return true;
-    }
-    let mut j = 0;
-    while j < i {
-        if shares_name(line, line_at(text, starts, j)) {
-            return true;
-        }
-        j += 1;
-    }
-    false
+    let line = table.line(i);
+    !own_different(line) || (0..i).any(|j| shares_name(line, table.line(j)))
 }
 
-// The first of n gates that gives a name again, or n.
-fn first_repeated(text: &[u8], starts: Starts, n: usize) -> usize
-    ensures { result ≡ first_bad (unrepeated (gates_at text.now starts.at n)) 0 n }
+// The first gate that gives a name again, if there is one.
+fn first_repeated(table: &Table) -> Option<usize>
+    ensures { result ≡ below table.now.gates (first_bad (unrepeated (gates_at table.now.text.now table.now.starts table.now.gates)) 0 table.now.gates) }
 {
-    let mut i = 0;
-    while i < n {
-        if repeats(text, starts, i) {
-            return i;
-        }
-        i += 1;
-    }
-    i
+    (0..table.gates).find(|&i| repeats(table, i))
 }
 
-// The first of n gates by which there are more than 64 regions, or n.
-fn first_crowded(text: &[u8], starts: Starts, n: usize) -> usize
-    ensures { result ≡ first_bad (uncrowded (gates_at text.now starts.at n)) 0 n }
+// The first gate by which there are more than 64 regions, if there is one.
+fn first_crowded(table: &Table) -> Option<usize>
+    ensures { result ≡ below table.now.gates (first_bad (uncrowded (gates_at table.now.text.now table.now.starts table.now.gates)) 0 table.now.gates) }
 {
     let mut total = 0;
-    let mut i = 0;
-    while i < n {
-        let m = region_count(line_at(text, starts, i));
+    for i in 0..table.gates {
+        let m = region_count(table.line(i));
         if 64 - total < m {
-            return i;
+            return Some(i);
         }
         total += m;
-        i += 1;
     }
-    i
+    None
 }
 
-// Whether each reference of gate i names a region of n gates.
-fn is_living(text: &[u8], starts: Starts, n: usize, i: usize) -> bool
-    requires { (length (regions_at text.now starts.at n) ≤ 64) × (i < n) }
-    ensures { result ≡ living (gates_at text.now starts.at n) i }
+// Whether each reference of gate i names a region.
+fn is_living(table: &Table, i: usize) -> bool
+    requires few { length (regions_at table.now.text.now table.now.starts table.now.gates) ≤ 64 }
+    requires gate { i < table.now.gates }
+    ensures { result ≡ living (gates_at table.now.text.now table.now.starts table.now.gates) i }
 {
-    let total = region_total(text, starts, n);
-    let line = line_at(text, starts, i);
-    let end = reference_end(line);
-    let mut k = 2;
-    while k < end {
-        if has_reference(line, k) & (total <= number_of(text, starts, n, reference(line, k))) {
-            return false;
-        }
-        k += 1;
-    }
-    true
+    let total = table.region_total();
+    let line = table.line(i);
+    (2..reference_end(line)).all(|k| !has_reference(line, k)
+        || table.number_of(reference(line, k)) < total)
 }
 
-// The first of n gates that refers to no region, or n.
-fn first_dead(text: &[u8], starts: Starts, n: usize) -> usize
-    requires { length (regions_at text.now starts.at n) ≤ 64 }
-    ensures { result ≡ first_bad (living (gates_at text.now starts.at n)) 0 n }
+// The first gate that refers to no region, if there is one.
+fn first_dead(table: &Table) -> Option<usize>
+    requires { length (regions_at table.now.text.now table.now.starts table.now.gates) ≤ 64 }
+    ensures { result ≡ below table.now.gates (first_bad (living (gates_at table.now.text.now table.now.starts table.now.gates)) 0 table.now.gates) }
 {
-    let mut i = 0;
-    while i < n {
-        if !is_living(text, starts, n, i) {
-            return i;
-        }
-        i += 1;
-    }
-    i
+    (0..table.gates).find(|&i| !is_living(table, i))
 }
 
-// The gates below n that gate i refers to, as bits.
-fn gate_row(text: &[u8], starts: Starts, n: usize, i: usize) -> u64
-    ensures { (j : ℕ) → j < 64 → has_bit result j ≡ (ltb j n && refers_by text.now starts.at i j) }
+// The gates that gate i refers to, as bits.
+fn gate_row(table: &Table, i: usize) -> u64
+    ensures { (j : ℕ) → j < 64 → has_bit result j ≡ (ltb j table.now.gates && refers_by table.now.text.now table.now.starts i j) }
 {
-    let line = line_at(text, starts, i);
+    let line = table.line(i);
     let mut row = 0u64;
-    let mut j = 0;
-    while j < n {
-        row = settle(row, j, refers_to(line, line_at(text, starts, j)));
-        j += 1;
+    for j in 0..table.gates {
+        row = settle(row, j, refers_to(line, table.line(j)));
     }
     row
 }
 
-// The references of n gates, row by row.
-fn gate_rows(text: &[u8], starts: Starts, n: usize) -> Rows
-    requires { n ≤ 64 }
-    ensures { (i j : ℕ) → i < n → j < n → bit_at result.bits i j ≡ refers_by text.now starts.at i j }
+// The references of at most 64 gates, row by row.
+fn gate_rows(table: &Table) -> Rows
+    requires { table.now.gates ≤ 64 }
+    ensures { (i j : ℕ) → i < table.now.gates → j < table.now.gates → bit_at result.bits i j ≡ refers_by table.now.text.now table.now.starts i j }
 {
-    let mut rows = no_rows();
-    let mut i = 0;
-    while i < 64 {
-        let row = gate_row(text, starts, n, i);
-        rows.bits[i] = row;
-        i += 1;
+    let mut rows = Rows::new();
+    for i in 0..64 {
+        rows.bits[i] = gate_row(table, i);
     }
     rows
 }
 
-// The first of n gates that reaches itself, or n.
-fn first_circled(text: &[u8], starts: Starts, n: usize) -> usize
-    requires { n ≤ 64 }
-    ensures { result ≡ first_bad (uncircled (gates_at text.now starts.at n)) 0 n }
+// The first gate that reaches itself, if there is one.
+fn first_circled(table: &Table) -> Option<usize>
+    requires { table.now.gates ≤ 64 }
+    ensures { result ≡ below table.now.gates (first_bad (uncircled (gates_at table.now.text.now table.now.starts table.now.gates)) 0 table.now.gates) }
 {
-    let rows = reach(gate_rows(text, starts, n), n);
-    let mut i = 0;
-    while i < n {
-        if has_bit(row_in(rows, i), i) {
-            return i;
-        }
-        i += 1;
-    }
-    i
+    let rows = reach(gate_rows(table), table.gates);
+    (0..table.gates).find(|&i| has_bit(rows.row(i), i))
 }
 
-fn row_in(rows: Rows, i: usize) -> u64
-    ensures { result ≡ get_or rows.bits i 0 }
-{
-    if i < 64 { rows.bits[i] } else { 0 }
-}
-
-// The first of refusals 13 to 16 that applies to a table whose lines are good.
-pub fn names_refusal(text: &[u8]) -> Answer
+// The first of refusals 13 to 16 that applies to a table whose lines are good, if one does.
+pub fn names_refusal(text: &[u8]) -> Result<(), Refusal>
     requires { GoodLines text.now }
     ensures { (v : Verdict) → answered result v ≡ names_verdict (gates text.now) v }
 {
-    let starts = starts_of(text);
-    let lines = starts.lines;
-    let n = lesser(minus(lines, 1), 65);
-    let crowded = first_crowded(text, starts, n);
-    if crowded < n {
-        return Answer::Crowded { line: crowded + 2 };
+    let table = Table::new(text).up_to(65);
+    if let Some(gate) = first_crowded(&table) {
+        return Err(Refusal::Crowded { line: gate + 2 });
     }
-    let repeated = first_repeated(text, starts, n);
-    if repeated < n {
-        return Answer::Repeated { line: repeated + 2 };
+    if let Some(gate) = first_repeated(&table) {
+        return Err(Refusal::TwinName { line: gate + 2 });
     }
-    let dead = first_dead(text, starts, n);
-    if dead < n {
-        return Answer::Dead { line: dead + 2 };
+    if let Some(gate) = first_dead(&table) {
+        return Err(Refusal::DeadReference { line: gate + 2 });
     }
-    let circled = first_circled(text, starts, n);
-    if circled < n {
-        return Answer::Circled { line: circled + 2 };
+    if let Some(gate) = first_circled(&table) {
+        return Err(Refusal::Circle { line: gate + 2 });
     }
-    Answer::Fine
+    Ok(())
 }

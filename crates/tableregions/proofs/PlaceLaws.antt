@@ -1,14 +1,16 @@
 -- Where a region stands: the regions of the gates before its own, and then its place among those of its gate.
-use mathlib.Core.Path.{◌≡◌, sym, ap, ◌∙◌}
-use mathlib.Core.Bool.{true, false}
+use Rattle.std.proofs.Common.{Option, Some, None}
+use mathlib.Core.Path.{◌≡◌, refl, sym, ap, ◌∙◌}
+use mathlib.Core.Bool.{Bool, true, false, cond}
 use mathlib.Core.List.{List}
 use Prim.Native.Nat.{ℕ, ◌+◌, ◌-◌, ◌<◌, ◌≤◌}
 use native.Mathlib.Omega.{arith}
 use native.Mathlib.Decide.{dec_lt}
 use native.Mathlib.Nat.{zero-add}
 use native.Mathlib.Numerals.{add-one}
+use lib.Dec.{ltb}
 use lib.ListN.{length, get_or-eq_default}
-use borrow.Author.Tests.{le-leb, lt-leb, leb-true, leb-false}
+use borrow.Author.Tests.{le-leb, lt-leb, leb-true, leb-false, lt-ltb, le-ltb, ltb-true, ltb-false}
 use Rattle.plans.specs.Indices.{first_bad}
 use Rattle.plans.proofs.IndexLaws.{first-at, first-before, first_to}
 use Rattle.text.specs.Lines.{fields}
@@ -18,8 +20,31 @@ use Rattle.tables.specs.Table.{no_region, nth_region}
 use Rattle.resolve.specs.Inner.Reading.{line_at, fields_at, regions_at}
 use Rattle.resolve.proofs.ReadLaws.{count-more, region-named}
 use Rattle.resolve.proofs.CrowdLaws.{total-none}
-use Rattle.tableregions.specs.Inner.Located.{ends_before, gate_of_region, located_at}
+use Rattle.tableregions.specs.Inner.Located.{ends_before, gate_of_region, located_at, in_table}
 use Rattle.tableregions.specs.declared.Located.{Located}
+
+-- ---- a place, if it is one of n gates
+
+module _ (n : ℕ) (x : Located) {y : Located} (e : x ≡ y) where
+  pub found_place : x.gate < n → Some x ≡ in_table n y
+  found_place h = rw (← e, lt-ltb x.gate n h)
+
+  pub no_place : n ≤ x.gate → None ≡ in_table n y
+  no_place h = rw (← e, le-ltb x.gate n h)
+
+pub place_found : (n : ℕ) (x y : Located) → Some x ≡ in_table n y → (x ≡ y) × (x.gate < n)
+place_found n x y e = go (ltb y.gate n) refl e
+  where
+    go : (b : Bool) → ltb y.gate n ≡ b → Some x ≡ cond b (Some y) None → (x ≡ y) × (x.gate < n)
+    go true h f = let z : x ≡ y = cc in (z, rw z (ltb-true y.gate n h))
+    go false h f = cc
+
+pub place_missed : (n : ℕ) (y : Located) → None ≡ in_table n y → n ≤ y.gate
+place_missed n y e = go (ltb y.gate n) refl e
+  where
+    go : (b : Bool) → ltb y.gate n ≡ b → None ≡ cond b (Some y) None → n ≤ y.gate
+    go true h f = absurd cc
+    go false h f = ltb-false y.gate n h
 
 module _ (text starts : List ℕ) where
   -- ---- gate by gate: the regions before gate i, and what is left of r

@@ -1,16 +1,16 @@
 // The regions of a table by number: where each stands, its name, and what it refers to.
 #![tactic(auto)]
 
-ghost use Rattle.std.specs.Prelude.{◌≡◌};
+ghost use Rattle.std.specs.Prelude.{◌≡◌, []};
 ghost use Rattle.text.specs.Bounded.{tab};
 ghost use Rattle.tables.specs.Table.{nth_region};
 ghost use Rattle.resolve.specs.Inner.Reading.{regions_at};
-ghost use Rattle.tableregions.specs.Inner.Located.{located_at, row_of};
+ghost use Rattle.tableregions.specs.Inner.Located.{in_table, located_at, row_of};
 
 use gatelines::regions::{region_count, region_name};
-use graph::{Rows, no_rows};
+use graph::Rows;
 use linenames::{has_reference, reference, reference_end};
-use resolve::{Starts, line_at, number_of, settle};
+use resolve::{Table, settle};
 
 // A region's gate line, and which of its regions it is.
 #[derive(Clone, Copy)]
@@ -19,73 +19,57 @@ pub struct Located {
     pub quadrant: usize,
 }
 
-// Where region r stands among n gates; at gate n where there is no such region.
-pub fn locate(text: &[u8], starts: Starts, n: usize, r: usize) -> Located
-    ensures { result ≡ located_at text.now starts.at n r }
+// Where region r stands, if there is such a region.
+pub fn locate(table: &Table, r: usize) -> Option<Located>
+    ensures { result ≡ in_table table.now.gates (located_at table.now.text.now table.now.starts table.now.gates r) }
 {
     let mut left = r;
-    let mut i = 0;
-    while i < n {
-        let m = region_count(line_at(text, starts, i));
+    for gate in 0..table.gates {
+        let m = region_count(table.line(gate));
         if left < m {
-            return Located {
-                gate: i,
+            return Some(Located {
+                gate,
                 quadrant: left,
-            };
+            });
         }
         left -= m;
-        i += 1;
     }
-    Located {
-        gate: n,
-        quadrant: left,
-    }
+    None
 }
 
-// The name of region r of n gates, and nothing where there is no such region.
-pub fn name_at(text: &[u8], starts: Starts, n: usize, r: usize) -> &[u8]
-    ensures { result.now ≡ (nth_region (regions_at text.now starts.at n) r).name }
+// The name of region r, and nothing where there is no such region.
+pub fn name_at<'a>(table: &Table<'a>, r: usize) -> &'a [u8]
+    ensures { result.now ≡ (nth_region (regions_at table.now.text.now table.now.starts table.now.gates) r).name }
 {
-    let at = locate(text, starts, n, r);
-    let gate = at.gate;
-    let quadrant = at.quadrant;
-    if n <= gate {
-        return &text[..0];
-    }
-    region_name(line_at(text, starts, gate), quadrant)
+    let Some(place) = locate(table, r) else {
+        return &table.text[..0];
+    };
+    region_name(table.line(place.gate), place.quadrant)
 }
 
-// The regions that region r of n gates refers to, as bits; none where there is no such region.
-fn region_row(text: &[u8], starts: Starts, n: usize, r: usize) -> u64
-    ensures { result ≡ row_of (regions_at text.now starts.at n) r }
+// The regions that region r refers to, as bits; none where there is no such region.
+fn region_row(table: &Table, r: usize) -> u64
+    ensures { result ≡ row_of (regions_at table.now.text.now table.now.starts table.now.gates) r }
 {
-    let at = locate(text, starts, n, r);
-    let own = at.gate;
-    if n <= own {
+    let Some(place) = locate(table, r) else {
         return 0;
-    }
-    let line = line_at(text, starts, own);
-    let end = reference_end(line);
+    };
+    let line = table.line(place.gate);
     let mut row = 0u64;
-    let mut k = 2;
-    while k < end {
-        let number = number_of(text, starts, n, reference(line, k));
+    for k in 2..reference_end(line) {
+        let number = table.number_of(reference(line, k));
         row = settle(row, number, has_reference(line, k));
-        k += 1;
     }
     row
 }
 
-// The references of the regions of n gates, row by row.
-pub fn region_rows(text: &[u8], starts: Starts, n: usize) -> Rows
-    ensures { result.bits ≡ tab (row_of (regions_at text.now starts.at n)) 64 }
+// The references of all regions, row by row.
+pub fn region_rows(table: &Table) -> Rows
+    ensures { result.bits ≡ tab (row_of (regions_at table.now.text.now table.now.starts table.now.gates)) 64 }
 {
-    let mut rows = no_rows();
-    let mut r = 0;
-    while r < 64 {
-        let row = region_row(text, starts, n, r);
-        rows.bits[r] = row;
-        r += 1;
+    let mut rows = Rows::new();
+    for r in 0..64 {
+        rows.bits[r] = region_row(table, r);
     }
     rows
 }

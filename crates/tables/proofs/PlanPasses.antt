@@ -12,14 +12,15 @@ use lib.ListN.{length, get_or, length-append, length-map}
 use borrow.Author.Tests.{lt-ltb, le-ltb, le-leb}
 use Rattle.plans.specs.Indices.{first_bad}
 use Rattle.plans.specs.Words.{word, number}
+use Rattle.std.specs.Prelude.{Result, Ok, Err}
 use Rattle.integers.specs.Range.{in_range}
 use Rattle.plans.specs.Bits.{has_bit, with_bit}
-use Rattle.plans.specs.Refusals.{passed, refused}
+use Rattle.plans.specs.Refusals.{passed, refusal}
 use Rattle.plans.specs.Form.{earlier, free, parent_good, operand_word, body_word, head_word_for, head_word, width, step_count}
 use Rattle.plans.specs.Kinds.{spans, length_good}
 use Rattle.plans.specs.Inner.Reader.{head_run, body_run, step_form, steps_form, read_form}
-use Rattle.plans.specs.declared.form.Stepped.{Stepped}
-use Rattle.plans.specs.declared.form.Stepped.TheVariants.{Good, Bad}
+use Rattle.plans.specs.declared.Refusal.{Refusal}
+use Rattle.plans.specs.declared.form.Formed.{Formed}
 use Rattle.plans.proofs.IndexLaws.{first-none}
 use Rattle.gates.specs.Gate.{Name, Operand, Shape, leaf, and_of, or_of, not_of, Region}
 use Rattle.gates.proofs.GoodGate.{GoodShape}
@@ -43,11 +44,11 @@ unfolding spans
 spans-true lo hi m a b = rw (le-leb lo m a, le-leb m hi b)
 
 -- a good step is passed over
-steps_on : (left : ℕ) (p : List ℤ) (n k set at region next : ℕ) → step_form p n k set at ≡ Good region next
+steps_on : (left : ℕ) (p : List ℤ) (n k set at region next : ℕ) → step_form p n k set at ≡ Ok (record { region = region; next = next })
     → steps_form (suc left) p n k set at ≡ steps_form left p n k (with_bit set region) next
 unfolding steps_form
 steps_on left p n k set at region next e =
-    ap (λ (s : Stepped). elim s [ Good r x ↦ steps_form left p n k (with_bit set r) x | Bad place ↦ refused 22 place ]) e
+    ap (λ (s : Result Formed Refusal). elim s [ Ok f ↦ steps_form left p n k (with_bit set f.region) f.next | Err r ↦ refusal r ]) e
 
 module _ (rs : List Region) (ok : Orderly rs) (n : ℕ) (good : (r : Region) → r ∈ rs → GoodShape n r.shape) where
   -- ---- one step, where its references are set
@@ -109,7 +110,8 @@ module _ (rs : List Region) (ok : Orderly rs) (n : ℕ) (good : (r : Region) →
           (rw (parent_is rs r before rest) (parent-good x.parent (λ m i. Memᴰ.append_left (operand_names x.shape) i)))
           (rw (kind-is rs r before rest, length-is rs r before rest) (shape-length x.shape shape-good))
 
-      step-good : step_form p n (length rs) set (length before) ≡ Good r (length (before ++ step_words rs r))
+      step-good : step_form p n (length rs) set (length before)
+          ≡ Ok (record { region = r; next = length (before ++ step_words rs r) })
       unfolding step_form head_run body_run
       step-good =
           let a : first_bad (head_word p (length rs) set (length before)) 0 4 ≡ 4 =

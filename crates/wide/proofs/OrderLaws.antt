@@ -8,9 +8,9 @@ use Rattle.integers.proofs.Booleans.{and_split, or_split}
 use Rattle.integers.proofs.Parts.{add_ud}
 use Rattle.integers.proofs.Order.{zarith, lt_z_add, lt_z_sub, sub_lt_z}
 use Rattle.integers.proofs.Products.{lt_z_mul}
+use Rattle.std.specs.Ordering.{is_gt}
 use Rattle.wide.specs.declared.Wide.{Wide}
-use Rattle.wide.specs.declared.Order.{Order}
-use Rattle.wide.specs.declared.Order.TheVariants.{Less, Equal, Greater}
+use Rattle.std.specs.declared.cmp.Ordering.TheVariants.{Less, Equal, Greater}
 use Rattle.wide.specs.Inner.Values.{value, order_of}
 use Rattle.wide.proofs.WordLaws.{bits_below}
 use Rattle.wide.proofs.ValueLaws.{Sized}
@@ -142,15 +142,10 @@ pub order_mul : (k x y : ℤ) → pos 0 <ℤ k → order_of (k *ℤ x) (k *ℤ y
 order_mul k x y h = rw (lt_z_mul k x y h, lt_z_mul k y x h)
 
 -- `Greater` as a test
-abbrev pub is_greater : Order → Bool
-is_greater Less = false
-is_greater Equal = false
-is_greater Greater = true
-
-pub is_greater_lem : (x y : ℤ) → is_greater (order_of x y) ≡ lt_z y x
+pub is_greater_lem : (x y : ℤ) → is_gt (order_of x y) ≡ lt_z y x
 is_greater_lem x y = go (lt_z x y) (lt_z y x) refl refl
   where
-    go : (t u : Bool) → lt_z x y ≡ t → lt_z y x ≡ u → is_greater (cond t Less (cond u Greater Equal)) ≡ u
+    go : (t u : Bool) → lt_z x y ≡ t → lt_z y x ≡ u → is_gt (cond t Less (cond u Greater Equal)) ≡ u
     go true true e f = let g : ⊥ = omega zarith in absurd g
     go true false e f = refl
     go false true e f = refl

@@ -8,6 +8,7 @@ ghost use Rattle.std.specs.Prelude.{◌≡◌, ◌+ℤ◌, ◌-ℤ◌, ◌*ℤ�
 ghost use Rattle.wide.specs.Inner.Values.{value, wrapped, order_of};
 
 use crate::words::{bits_of, product_high, product_low, sign_turned, when};
+use std::cmp::Ordering;
 use std::num::{wrapping_add_u64, wrapping_sub_u64};
 
 // high · 2^64 + low, where high is read as a signed number.
@@ -17,23 +18,14 @@ pub struct Wide {
     pub low: u64,
 }
 
-// How a number compares with another.
-#[derive(Clone, Copy)]
-pub enum Order {
-    Less,
-    Equal,
-    Greater,
-}
-
 // The same number.
-pub fn of(x: i64) -> Wide
-    ensures { value result ≡ x }
-{
-    let high = when(x < 0, 18446744073709551615);
-    let low = bits_of(x);
-    Wide {
-        high: high,
-        low: low,
+impl From<i64> for Wide {
+    ghost from_gives = { λ x w. value w ≡ x };
+
+    fn from(x: i64) -> Wide {
+        let high = when(x < 0, 18446744073709551615);
+        let low = bits_of(x);
+        Wide { high, low }
     }
 }
 
@@ -46,7 +38,7 @@ pub fn plus(a: Wide, b: Wide) -> Wide
     let carry = when(low < a.low, 1);
     Wide {
         high: wrapping_add_u64(high, carry),
-        low: low,
+        low,
     }
 }
 
@@ -59,7 +51,7 @@ pub fn minus(a: Wide, b: Wide) -> Wide
     let borrow = when(a.low < b.low, 1);
     Wide {
         high: wrapping_sub_u64(high, borrow),
-        low: low,
+        low,
     }
 }
 
@@ -75,7 +67,7 @@ pub fn scaled(a: Wide, b: i64) -> Wide
     let excess = when(b < 0, a.low);
     Wide {
         high: wrapping_sub_u64(sum, excess),
-        low: low,
+        low,
     }
 }
 
@@ -90,12 +82,12 @@ pub fn times(a: i64, b: i64) -> Wide
     let less = wrapping_sub_u64(high, when(a < 0, v));
     Wide {
         high: wrapping_sub_u64(less, when(b < 0, u)),
-        low: low,
+        low,
     }
 }
 
 // How a compares with b. The tests are flags and not branches: they become moves.
-pub fn compare(a: Wide, b: Wide) -> Order
+pub fn compare(a: Wide, b: Wide) -> Ordering
     ensures { result ≡ order_of (value a) (value b) }
 {
     let x = sign_turned(a.high);
@@ -103,10 +95,10 @@ pub fn compare(a: Wide, b: Wide) -> Order
     let less = (x < y) | ((x == y) & (a.low < b.low));
     let same = (x == y) & (a.low == b.low);
     if less {
-        return Order::Less;
+        return Ordering::Less;
     }
     if same {
-        return Order::Equal;
+        return Ordering::Equal;
     }
-    Order::Greater
+    Ordering::Greater
 }

@@ -11,7 +11,7 @@ ghost use Rattle.writer.specs.Inner.Words.{number_word, parent_number_word, head
 
 use gatefields::fields::{combines, kind_of};
 use gatelines::regions::{body_length, step_number, word_of};
-use text::output::lesser;
+use text::output::put;
 
 // Whether the gate of a line combines operands.
 pub fn has_operands(line: &[u8]) -> bool
@@ -24,54 +24,42 @@ pub fn has_operands(line: &[u8]) -> bool
 fn number_word(n: usize) -> i32
     ensures { result ≡ number_word n }
 {
-    lesser(n, 65535) as i32
+    n.min(65535) as i32
 }
 
 // The word of a parent's region; 64 or more for none.
 fn parent_word(parent: usize) -> i32
     ensures { result ≡ parent_number_word parent }
 {
-    if parent < 64 {
-        return parent as i32;
-    }
-    -1
+    if parent < 64 { parent as i32 } else { -1 }
 }
 
 // The word of an operand.
 fn operand_word(region: usize, complement: bool) -> i32
     ensures { result ≡ operand_number_word region complement }
 {
-    let twice = 2 * lesser(region, 65535);
+    let twice = 2 * region.min(65535);
     if complement {
         return number_word(twice + 1);
     }
     number_word(twice)
 }
 
-// Puts a word at index i, where there is one.
-fn put_word(rest: &mut [i32], i: usize, word: i32)
-    ensures { rest.new ≡ set rest.old i word }
-{
-    if i < rest.len() {
-        rest[i] = word;
-    }
-}
-
 // Puts a number at index i, where there is one.
 pub fn put_number(rest: &mut [i32], i: usize, n: usize)
     ensures { rest.new ≡ set rest.old i (number_word n) }
 {
-    put_word(rest, i, number_word(n));
+    put(rest, i, number_word(n));
 }
 
 // Writes a step's header over the beginning of rest, and answers how many words it has. A parent of 64 or more is none.
 pub fn put_header(rest: &mut [i32], kind: u8, region: usize, parent: usize, length: usize) -> usize
     ensures { Writes (header kind region parent length) rest.old rest.new result }
 {
-    put_word(rest, 0, kind as i32);
-    put_word(rest, 1, number_word(region));
-    put_word(rest, 2, parent_word(parent));
-    put_word(rest, 3, number_word(length));
+    put(rest, 0, kind as i32);
+    put(rest, 1, number_word(region));
+    put(rest, 2, parent_word(parent));
+    put(rest, 3, number_word(length));
     4
 }
 
@@ -81,19 +69,17 @@ pub fn put_leaf(rest: &mut [i32], head: &[u8], line: &[u8], q: usize) -> usize
         rest.old rest.new result }
 {
     let n = body_length(line);
-    let mut i = 0;
-    while i < n {
-        put_word(rest, i, word_of(head, line, q, i));
-        i += 1;
+    for i in 0..n {
+        put(rest, i, word_of(head, line, q, i));
     }
-    i
+    n
 }
 
 // Puts the word of an operand at index i, where there is one.
 pub fn put_operand(rest: &mut [i32], i: usize, region: usize, complement: bool)
     ensures { rest.new ≡ set rest.old i (operand_number_word region complement) }
 {
-    put_word(rest, i, operand_word(region, complement));
+    put(rest, i, operand_word(region, complement));
 }
 
 // Writes the step of region q of a box, polygon or ellipse over the beginning of rest, and answers how many words it has.

@@ -1,11 +1,7 @@
--- `put_steps` meets its contract: k steps are written over the beginning.
-use Prim.Native.Nat.{◌-◌}
+-- `put_steps` meets its contract: as many steps as rounds are over are written over the beginning.
 use Rattle.compiler.proofs.StepsLaws.{Filling}
 use Rattle.resolve.specs.Inner.Reading.{regions_at}
 use Rattle.compiler.proofs.put_steps.Given as goal
 
-abbrev pub invariant-loop-k : goal.invariant-loop-k
-invariant-loop-k l = Filling (regions_at l.text l.starts.at l.n) l.initial.rest l.written l.k l.at l.rest
-
-abbrev pub decreases-loop-k : goal.decreases-loop-k
-decreases-loop-k l = l.total - l.k
+abbrev pub invariant-loop : goal.invariant-loop
+invariant-loop l = Filling (regions_at l.table.text.now l.table.starts l.table.gates) l.initial.rest l.written l.counter l.at l.rest

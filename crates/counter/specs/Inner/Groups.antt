@@ -1,5 +1,5 @@
 -- Sets of the events of a group, as the bits of a number: bit e for event e of at most 64.
-use Rattle.std.specs.Prelude.{◌≡◌, Bool, true, not, ◌&&◌, cond, List, ℕ, ◌-◌, ◌*◌, ◌/◌, ◌%◌, ◌<◌, ◌≤◌, ℤ, length, get_or, eqb, leb, ltb}
+use Rattle.std.specs.Prelude.{◌≡◌, Bool, true, not, ◌&&◌, cond, List, ℕ, ◌-◌, ◌*◌, ◌/◌, ◌%◌, ◌<◌, ◌≤◌, ℤ, length, get_or, eqb, leb, ltb, Option, None, Some}
 use Rattle.plans.specs.Indices.{all, any}
 use Rattle.plans.specs.Words.{word, number}
 use Rattle.plans.specs.Bits.{has_bit}
@@ -83,8 +83,9 @@ unfoldable pub any_at : List ℕ → List ℤ → ℕ → ℕ → Bool
 any_at sets body i e = any (λ k. operand_at sets body k e) i
 
 -- event e is in the parent's set, or taken where there is no parent
-unfoldable pub parent_at : List ℕ → ℕ → ℕ → ℕ → Bool
-parent_at sets taken parent e = cond (ltb parent 64) (in_set sets e parent) (has_bit taken e)
+abbrev pub parent_at : List ℕ → ℕ → Option ℕ → ℕ → Bool
+parent_at sets taken None e = has_bit taken e
+parent_at sets taken (Some r) e = in_set sets e r
 
 -- event e is in a shape
 unfoldable pub drawn_at : Shape → ℕ → List ℤ → List ℤ → ℕ → Bool

@@ -1,12 +1,10 @@
 -- What the walk's functions are handed and answer: the point seen from a vertex, one edge, edges off its height, stretches of the walk.
-use Rattle.std.specs.Prelude.{◌≡◌, Bool, not, ◌&&◌, cond, List, ℕ, zero, suc, ◌+◌, ◌-◌, ◌/◌, ◌%◌, ◌<◌, ◌≤◌, ℤ, pos, ◌-ℤ◌, length, get_or}
+use Rattle.std.specs.Prelude.{◌≡◌, Bool, not, ◌&&◌, cond, List, ℕ, zero, suc, ◌+◌, ◌-◌, ◌/◌, ◌%◌, ◌<◌, ◌≤◌, ℤ, pos, ◌-ℤ◌, length, get_or, Option, Some}
 use Rattle.std.specs.Int.Signed.{lt_z}
 use Rattle.integers.specs.Inner.Bounds.{In}
 use Rattle.counter.specs.Polygon.{edge}
 use Rattle.counter.specs.Walk.{walked, past}
 use Rattle.counter.specs.declared.polygon.Offset.{Offset}
-use Rattle.counter.specs.declared.polygon.Walked.{Walked}
-use Rattle.counter.specs.declared.polygon.Walked.TheVariants.{Summed}
 
 -- ---- vertices
 
@@ -41,8 +39,8 @@ abbrev pub turn_for : ℤ → ℤ → ℤ → ℤ
 turn_for from to s = cond (one_of (lt_z from (pos 0)) (lt_z to (pos 0))) (one (lt_z to (pos 0)) -ℤ one (lt_z s (pos 0))) (pos 0)
 
 -- the walk past the edge between two vertices, from which the point is seen at a and at b, whatever they are
-pub record PastEdge (a b : Offset) (sum : ℤ) (r : Walked) : Type 0 where
-  pub is : (x y x0 y0 x1 y1 : ℤ) → SeenFrom x y x0 y0 a → SeenFrom x y x1 y1 b → r ≡ past (edge x0 y0 x1 y1) x y (Summed sum)
+pub record PastEdge (a b : Offset) (sum : ℤ) (r : Option ℤ) : Type 0 where
+  pub is : (x y x0 y0 x1 y1 : ℤ) → SeenFrom x y x0 y0 a → SeenFrom x y x1 y1 b → r ≡ past (edge x0 y0 x1 y1) x y (Some sum)
 
 -- ---- edges off the height
 

@@ -1,46 +1,71 @@
 -- `count_table`: by the words that compiling reported, or nothing; a wrong column line or a ragged list is refused where the table is not.
-use mathlib.Core.Path.{sym}
+use mathlib.Core.Path.{sym, ap, ◌∙◌}
 use lib.Seq.{length-take-le}
+use Rattle.std.proofs.lemmas.Result.{err_from_is_err_and}
+use Rattle.heads.specs.Answers.{columns_said}
 use Rattle.compiler.proofs.PlanLaws.{dims-read}
-use Rattle.counttable.proofs.CountLaws.{told, refused-first, list-refused, words_inside, counted_by_lem, counted-not}
+use Rattle.counttable.proofs.CountLaws.{right-not, right-said, never, refused-first, columns-wrong, list-ragged}
+use Rattle.counttable.proofs.CountLaws.{words_inside, counted-well, counted_by_lem, counted-not}
+use Rattle.counttable.proofs.count_table.Goals.{then-is_err-via-then-is_err, then-is_err-via-else-is_err+then-is_ragged}
 use Rattle.counttable.proofs.count_table.Goals as goal
 
-pub returns-in-Accepted : goal.returns-in-Accepted
-returns-in-Accepted c =
+pub returns-in_err-table_verdict : goal.returns-in_err-table_verdict
+returns-in_err-table_verdict c =
     let a = c.args in
-    let n = dims-read a.table.now c.head_line.ensures c.name_count.ensures in
-    told (list-refused a.table.now a.columns.now a.plan.now a.events.now c.table_verdict-verdict.ensures.verdict c.table_verdict-verdict.ensures.accepted
-    c.uncounted.result c.in-Accepted.is c.test_columns-tested.result c.test_columns-tested.ensures c.is_wrong.ensures
-    n c.is_ragged-ragged.ensures c.if-is_wrong-ragged.true c.refused_list.ensures c.uncounted.ensures)
+    let p = err_from_is_err_and c.from_residual.result c.from_residual.ensures.1 in
+    let v = c.in_err-table_verdict.ensures in
+    rw (p.1, p.2) (refused-first a.table.now a.columns.now a.plan.now a.events.now v.verdict v.accepted)
 
-pub returns-in-Refused : goal.returns-in-Refused
-returns-in-Refused c =
+pub returns-in_err-tested : goal.returns-in_err-tested
+returns-in_err-tested c =
     let a = c.args in
-    told (refused-first a.table.now a.columns.now a.plan.now a.events.now c.table_verdict-verdict.ensures.verdict c.table_verdict-verdict.ensures.accepted
-    c.uncounted-in-Refused.result c.in-Refused.is c.uncounted-in-Refused.ensures)
+    let p = err_from_is_err_and c.from_residual-in_err-tested.result c.from_residual-in_err-tested.ensures.1 in
+    let said = ap columns_said (sym c.in_err-tested.was) ∙ c.test_columns-tested.ensures in
+    rw (p.1, p.2) (columns-wrong a.table.now a.columns.now a.plan.now a.events.now c.in_ok-table_verdict.ensures.verdict said)
+
+pub returns-then-is_err : goal.returns-then-is_err
+returns-then-is_err c =
+    let a = c.args in
+    let said = ap columns_said (sym c.in_ok-tested.was) ∙ c.test_columns-tested.ensures in
+    elim c.then-is_err.branch [
+      | then-is_err-via-then-is_err w ↦
+          absurd (right-not c.test_columns-tested.result c.in_ok-tested.field-0 c.in_ok-tested.was (sym c.is_err.ensures.value ∙ w.if-is_err.true))
+      | then-is_err-via-else-is_err+then-is_ragged w ↦
+          list-ragged a.table.now a.columns.now a.plan.now a.events.now c.in_ok-table_verdict.ensures.verdict said
+          (dims-read a.table.now w.head_line.ensures w.name_count.ensures) (sym w.if-is_ragged.true ∙ w.is_ragged.ensures)
+    ]
+
+pub returns-in_err-written : goal.returns-in_err-written
+returns-in_err-written c =
+    let a = c.args in
+    let p = err_from_is_err_and c.from_residual-in_err-written.result c.from_residual-in_err-written.ensures.1 in
+    rw (p.1, p.2) (counted-not a.table.now a.columns.now a.plan.now a.events.now c.in_err-written.ensures)
 
 pub slice_bounds-count-end : goal.slice_bounds-count-end
 slice_bounds-count-end c =
     let a = c.args in
-    words_inside a.table.now a.columns.now a.plan.now a.events.now c.compile-compiled.result c.compile-compiled.new.plan
-    c.compile-compiled.ensures c.in-Written.is
+    words_inside a.table.now a.columns.now a.plan.now a.events.now c.in_ok-written.ensures
 
-pub slice_bounds-count-end-in-Written : goal.slice_bounds-count-end-in-Written
-slice_bounds-count-end-in-Written c =
+pub slice_bounds-count-end-2 : goal.slice_bounds-count-end-2
+slice_bounds-count-end-2 c =
     let a = c.args in
-    sym (length-take-le _ _ (words_inside a.table.now a.columns.now a.plan.now a.events.now c.compile-compiled.result
-    c.compile-compiled.new.plan c.compile-compiled.ensures c.in-Written.is))
+    sym (length-take-le _ _ (words_inside a.table.now a.columns.now a.plan.now a.events.now c.in_ok-written.ensures))
 
-pub returns-in-Written : goal.returns-in-Written
-returns-in-Written c =
+-- never: what compiling wrote is a plan that passes, and the events are complete
+pub returns-in_err-tally : goal.returns-in_err-tally
+returns-in_err-tally c =
     let a = c.args in
+    let t = c.test_columns-tested in
+    let right = sym (right-said t.result (sym c.is_err.ensures.value ∙ c.if-is_err.false)) ∙ t.ensures in
     let n = dims-read a.table.now c.head_line.ensures c.name_count.ensures in
-    told (counted_by_lem a.table.now a.columns.now a.plan.now a.events.now c.compile-compiled.result c.compile-compiled.new.plan
-    c.compile-compiled.ensures c.in-Written.is c.test_columns-tested.result c.test_columns-tested.ensures c.is_wrong.ensures
-    n c.is_ragged-ragged.ensures c.if-is_wrong-ragged.false c.count-counted.result c.count-counted.ensures)
+    absurd (never c.in_err-tally.field-0.0 (counted-well a.table.now a.columns.now a.plan.now a.events.now c.in_ok-written.ensures
+    right n (sym c.if-is_ragged.false ∙ c.is_ragged.ensures) c.in_err-tally.ensures))
 
-pub returns-in-Refused-compiled : goal.returns-in-Refused-compiled
-returns-in-Refused-compiled c =
+pub returns : goal.returns
+returns c =
     let a = c.args in
-    told (counted-not a.table.now a.columns.now a.plan.now a.events.now c.compile-compiled.result c.compile-compiled.new.plan
-    c.compile-compiled.ensures c.in-Refused-compiled.is c.uncounted-in-Refused-compiled.result c.uncounted-in-Refused-compiled.ensures)
+    let t = c.test_columns-tested in
+    let right = sym (right-said t.result (sym c.is_err.ensures.value ∙ c.if-is_err.false)) ∙ t.ensures in
+    let n = dims-read a.table.now c.head_line.ensures c.name_count.ensures in
+    counted_by_lem a.table.now a.columns.now a.plan.now a.events.now c.in_ok-written.ensures
+    right n (sym c.if-is_ragged.false ∙ c.is_ragged.ensures) c.in_ok-tally.ensures

@@ -1,14 +1,13 @@
--- `minus_zero`: what is kept is zero exactly where the value is.
-use mathlib.Core.Path.{ap}
-use mathlib.Core.Bool.{Bool, ◌&&◌}
-use Rattle.text.specs.Numbers.{is_negative, unsigned}
-use Rattle.decimals.specs.Decimals.{unsigned_thousandths, is_minus_zero}
+-- `minus_zero`: what is kept is zero where the value is.
+use Rattle.std.proofs.Common.{rules, tests}
+use Rattle.decimals.specs.Decimals.{is_minus_zero}
 use Rattle.decimals.proofs.DecimalLaws.{zero-kept}
 use Rattle.decimals.proofs.minus_zero.Goals as goal
 
-pub returns : goal.returns
+pub returns-then-negative : goal.returns-then-negative
 unfolding is_minus_zero
-returns c =
-    let s = c.args.s.now in
-    rw (c.unsigned_thousandths.ensures, c.unsigned.ensures, c.negative.ensures)
-    (ap (λ (b : Bool). is_negative s && b) (zero-kept (unsigned_thousandths (unsigned s))))
+returns-then-negative c = rw (c.unsigned_thousandths.ensures, c.unsigned.ensures, zero-kept) (search (rules, tests))
+
+pub returns-else-negative : goal.returns-else-negative
+unfolding is_minus_zero
+returns-else-negative c = search rules

@@ -22,5 +22,5 @@ returns-then-is_decimal c =
       clamp_to-signed 2147483647 (omega arith),
     )
 
-pub returns : goal.returns
-returns c = sym (decimal-bad _ (sym c.is_decimal.ensures ∙ c.if-is_decimal.false))
+pub returns-else-is_decimal : goal.returns-else-is_decimal
+returns-else-is_decimal c = sym (decimal-bad _ (sym c.is_decimal.ensures ∙ c.if-is_decimal.false))

@@ -1,5 +1,5 @@
 -- What the readers of an input answer.
-use Rattle.std.specs.Prelude.{ℕ, ◌+◌, cond, leb, ℤ, length}
+use Rattle.std.specs.Prelude.{ℕ, zero, suc, ◌+◌, cond, leb, ℤ, length, Option, Some, None, Result, Ok, Err}
 use mathlib.Core.List.{List, [], map, flat_map}
 use Rattle.text.specs.Numbers.{clamp}
 use Rattle.text.specs.Inner.Kept.{read_number, kept}
@@ -8,22 +8,29 @@ use Rattle.events.specs.Parting.{table_lines, has_events, table_end, events_ende
 use Rattle.events.specs.Listing.{Events, list, ragged}
 use Rattle.events.specs.declared.parting.Parted.{Parted}
 use Rattle.events.specs.declared.parting.Opening.{Opening}
-use Rattle.events.specs.declared.listing.Answer.{Answer}
-use Rattle.events.specs.declared.listing.Answer.TheVariants.{Values, Ragged, Short}
+use Rattle.events.specs.declared.listing.ListRefusal.{ListRefusal}
+use Rattle.events.specs.declared.listing.ListRefusal.TheVariants.{Ragged, Short}
 
--- what `split` answers; without the line `events`, start and line lie behind the end of the input and its last line
+-- the number of the line `events`, if it is there
+unfoldable pub events_line : List ℕ → Option ℕ
+events_line input = cond (has_events input) (Some (table_lines input + 1)) None
+
+-- where the lines behind it start, if it ends in LF
+unfoldable pub events_start : List ℕ → Option ℕ
+events_start input = cond (events_ended input) (Some (table_end input + 7)) None
+
+-- what `split` answers
 unfoldable pub parted_of : List ℕ → Parted
-parted_of input = record {
-  table = table_end input;
-  found = has_events input;
-  ended = events_ended input;
-  start = table_end input + 7;
-  line = table_lines input + 1;
-}
+parted_of input = record { table = table_end input; line = events_line input; start = events_start input }
 
 -- what the search for the line `events` answers
 unfoldable pub opening_of : List ℕ → Opening
-opening_of input = record { found = has_events input; at = table_end input; before = table_lines input }
+opening_of input = record { at = table_end input; line = events_line input }
+
+-- the number of a line counted from 1, where 0 stands for none
+abbrev pub above_zero : ℕ → Option ℕ
+above_zero zero = None
+above_zero (suc n) = Some (suc n)
 
 -- the values listed, each as it is kept: counting them is counting the values themselves (`count_kept` in the counter's proofs)
 abbrev pub listed : Events → List ℤ
@@ -38,6 +45,6 @@ unfoldable pub values_kept : List ℕ → List ℤ
 values_kept part = flat_map line_kept (lines part)
 
 -- what `read_events` answers with room for so many values
-abbrev pub answer_of : Events → ℕ → Answer
-answer_of (list vs) room = cond (leb (length vs) room) (Values (length vs)) Short
-answer_of (ragged line) room = Ragged line
+abbrev pub answer_of : Events → ℕ → Result ℕ ListRefusal
+answer_of (list vs) room = cond (leb (length vs) room) (Ok (length vs)) (Err Short)
+answer_of (ragged line) room = Err (Ragged line)

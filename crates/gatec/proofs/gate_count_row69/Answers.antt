@@ -1,19 +1,26 @@
 -- `gate_count_row69` writes the tally's row.
 use mathlib.Core.Path.{◌≡◌, ◌∙◌, ap}
-use native.Mathlib.Omega.{arith}
+use mathlib.Core.List.{[]}
 use lib.ListN.{length}
-use lib.Seq.{sets}
-use Rattle.counter.specs.Counting.{Counting}
+use borrow.Author.Rules.{rules}
+use Rattle.std.proofs.Math.Seq.{set-append_seam}
+use Rattle.counter.specs.Counting.{Counting, no_tally}
 use Rattle.gatec.specs.Answers.{count_row}
-use Rattle.gatec.proofs.RowLaws.{sets_more}
-use Rattle.gatec.proofs.RowTheorems.{count_long}
+use Rattle.gatec.proofs.RowTheorems.{count_long, count-whole}
 use Rattle.gatec.proofs.gate_count_row69.Goals as goal
 
-pub returns : goal.returns
-returns c =
+pub returns-in-Ok : goal.returns-in-Ok
+returns-in-Ok c =
     let args = c.args in
-    let tally = c.count-c.result.tally in
-    let long : length tally.counts ≡ 64 =
-    ap (λ (k : Counting). length k.tally.counts) c.count-c.ensures ∙ count_long args.plan.now args.events.now in
-    rw (c.put_counts.ensures, c.checked_number.ensures, c.checked_place.ensures)
-    (sets_more tally.counts _ 4 68 tally.unclaimed (omega arith) ∙ ap (sets args.out.now 0) (ap count_row c.count-c.ensures))
+    let t = c.in-Ok.t in
+    let whole : length args.out.now ≡ 69 = search rules in
+    let long = ap (λ (k : Counting). length k.tally.counts) c.in-Ok.ensures ∙ count_long args.plan.now args.events.now in
+    let last = rw long at (set-append_seam t.counts 0 [] t.unclaimed) in
+    rw (count-whole args.plan.now args.events.now args.out.now whole, c.copy_from_slice.ensures.after, last) (ap count_row c.in-Ok.ensures)
+
+pub returns-in-Err : goal.returns-in-Err
+unfolding no_tally
+returns-in-Err c =
+    let args = c.args in
+    let whole : length args.out.now ≡ 69 = search rules in
+    rw (count-whole args.plan.now args.events.now args.out.now whole, c.number.ensures, c.place.ensures) (ap count_row c.in-Err.ensures)

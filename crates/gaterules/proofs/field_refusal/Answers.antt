@@ -85,7 +85,7 @@ returns-in-Max c =
       c.optional_refusal-in-Max.ensures,
       c.field-x.ensures,
       c.field-y.ensures,
-      c.minus.ensures,
+      c.saturating_sub.ensures,
       ← c.rule_of.ensures,
       c.in-Max.is,
     )
@@ -105,7 +105,7 @@ returns-in-Rising c =
       c.number_refusal-in-Rising.ensures,
       c.field-x.ensures,
       c.field-y.ensures,
-      c.minus.ensures,
+      c.saturating_sub.ensures,
       ← c.rule_of.ensures,
       c.in-Rising.is,
     )

@@ -22,7 +22,7 @@ returns-then-k-a c =
       ← c.quadrants_at-a.ensures.0,
       lt-ltb args.k c.quadrants_at-a.result c.if-k-a.true,
       c.divider_rule.ensures,
-      c.minus.ensures,
+      c.saturating_sub.ensures,
       c.divider_at.ensures.0,
       e,
       divider-of.ensures.0,

@@ -1,34 +1,15 @@
--- `repeated`: whether a dimension before j is the same field.
-use borrow.Author.Rules.{rules}
-use native.Mathlib.Omega.{arith}
-use native.Mathlib.Numerals.{add-one}
-use mathlib.Core.Path.{◌≡◌, refl}
-use Rattle.plans.specs.Indices.{any}
-use Rattle.gates.specs.Rules.{repeated}
+-- `repeated`: whether a dimension before k is the same field.
+use Rattle.std.proofs.Common.{◌&&◌, rules, tests}
+use Rattle.text.specs.Lines.{fields}
+use Rattle.text.specs.Bytes.{same}
+use Rattle.plans.proofs.IteratorLaws.{any_in_range}
+use Rattle.gates.specs.Kinds.{field_at}
+use Rattle.gates.specs.Rules.{is_dimension, rule_of, repeated}
 use Rattle.gaterules.proofs.repeated.Goals as goal
-
-pub loop-j-init : goal.loop-j-init
-unfolding any
-loop-j-init c = (search rules, refl)
-
-pub loop-j-preserved : goal.loop-j-preserved
-unfolding any
-loop-j-preserved c = (
-  search rules,
-  rw (
-    add-one,
-    c.same.ensures,
-    c.field.ensures,
-    c.field-x.ensures,
-    c.is_dimension.ensures,
-    c.rule_of.ensures,
-    c.loop-j.invariant.1,
-  ),
-)
 
 pub returns : goal.returns
 unfolding repeated
 returns c =
-    let loop = c.loop-j in
-    let e : loop.j ≡ c.args.k = omega arith in
-    rw (loop.invariant.1, e)
+    let fs = fields c.args.line.now in
+    any_in_range (λ j. is_dimension (rule_of c.args.kind fs j) && same (field_at fs j) (field_at fs c.args.k)) c.args.k _ _ _ (cc) c.any.ensures.ran
+    (λ x b q k. search (rules, tests))

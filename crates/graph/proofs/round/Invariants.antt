@@ -2,12 +2,8 @@
 use Rattle.graph.specs.Inner.Rows.{joined}
 use Rattle.text.specs.Output.{over}
 use Rattle.text.specs.Bounded.{tab}
-use Prim.Native.Nat.{◌-◌, ◌≤◌}
 use mathlib.Core.Path.{◌≡◌}
 use Rattle.graph.proofs.round.Given as goal
 
 abbrev pub invariant-loop-i : goal.invariant-loop-i
-invariant-loop-i l = (l.i ≤ 64) × (l.rows ≡ over (tab (joined l.initial.rows l.s) l.i) l.initial.rows)
-
-abbrev pub decreases-loop-i : goal.decreases-loop-i
-decreases-loop-i l = 64 - l.i
+invariant-loop-i l = l.rows ≡ over (tab (joined l.initial.rows l.s) l.i) l.initial.rows

@@ -1,31 +1,15 @@
 -- `all_names`.
-use Rattle.heads.proofs.HeadLaws.{names_more, names_stop, names_end}
+use Rattle.std.proofs.Common.{ℕ, [], ◌∙◌, refl, get_or, rules}
+use Rattle.std.proofs.lemmas.Iterator.{YieldsList-from_range}
+use Rattle.std.proofs.lemmas.Iterator.Search.{all_from_yields_List}
+use borrow.Author.Tests.{tests}
 use Rattle.text.specs.Lines.{fields}
-use borrow.Author.Tests.{not-true, not-false}
-use mathlib.Core.Path.{refl, sym, ◌∙◌}
+use Rattle.text.specs.Names.{is_name}
+use Rattle.heads.proofs.HeadLaws.{names_in}
 use Rattle.heads.proofs.all_names.Goals as goal
-
-pub loop-k-init : goal.loop-k-init
-loop-k-init c = refl
-
-pub returns-then-not-is_name : goal.returns-then-not-is_name
-returns-then-not-is_name c =
-    let loop = c.loop-k in
-    let f = fields c.args.head.now in
-    sym (loop.invariant
-    ∙ names_stop f loop.k (rw (← c.field_count-n.ensures) c.loop-k-test.true) c.field.ensures
-    c.is_name.ensures (not-true _ c.if-not-is_name.true-raw))
-
-pub loop-k-preserved : goal.loop-k-preserved
-loop-k-preserved c =
-    let loop = c.loop-k in
-    let f = fields c.args.head.now in
-    loop.invariant
-    ∙ names_more f loop.k (rw (← c.field_count-n.ensures) c.loop-k-test.true) c.field.ensures
-    c.is_name.ensures (not-false _ c.if-not-is_name.false-raw)
 
 pub returns : goal.returns
 returns c =
-    let loop = c.loop-k in
-    let f = fields c.args.head.now in
-    sym (loop.invariant ∙ names_end f loop.k (rw (← c.field_count-n.ensures) c.loop-k-test.false))
+    let fs = fields c.args.head.now in
+    all_from_yields_List (λ (k : ℕ). is_name (get_or fs k [])) _ _ _ c.all.ensures.ran (YieldsList-from_range 1 c.field_count.result _ (cc) refl)
+    (λ x b q k. search (rules, tests)) ∙ names_in c.args.head.now c.field_count.ensures

@@ -16,7 +16,7 @@ returns-then-has_reference-names_region c =
     let has-reference = c.has_reference in
     let loop-test = c.loop-k-test in
     let head = c.loop-k in
-    let reference-end = c.reference_end-end in
+    let reference-end = c.reference_end-k-end in
     let args = c.args in
     let f = fields args.line.now in
     let g = fields args.other.now in
@@ -42,7 +42,7 @@ loop-k-preserved c =
 
 pub returns : goal.returns
 returns c =
-    let reference-end = c.reference_end-end in
+    let reference-end = c.reference_end-k-end in
     let f = fields c.args.line.now in
     let g = fields c.args.other.now in
     let j = c.loop-k in

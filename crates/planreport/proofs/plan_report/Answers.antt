@@ -1,12 +1,25 @@
 -- `plan_report`: what compiling into 4,096 words answered is printed.
-use Rattle.planreport.proofs.CompiledLaws.{plan-held, compiled-printed}
+use Rattle.std.proofs.Common.{refl, sym, ◌≡◌, length}
+use lib.Seq.{length-take-le}
+use Rattle.planreport.proofs.CompiledLaws.{plan-held, plan-printed, refusal-printed}
 use Rattle.planreport.proofs.plan_report.Goals as goal
 
-pub put_compiled-requires : goal.put_compiled-requires
-put_compiled-requires c =
-    plan-held c.args.table.now c.plan_room-plan.result _ c.plan_room-plan.ensures c.compile-compiled.result c.compile-compiled.ensures
+pub slice_bounds-plan-end : goal.slice_bounds-plan-end
+slice_bounds-plan-end c =
+    (plan-held c.args.table.now _ _ refl c.in-Ok.written c.in-Ok.ensures).0
 
-pub returns : goal.returns
-returns c =
-    rw (compiled-printed c.args.table.now c.plan_room-plan.result _ c.plan_room-plan.ensures c.compile-compiled.result
-    c.compile-compiled.ensures) at c.put_compiled.ensures
+pub slice_bounds-put_plan-end : goal.slice_bounds-put_plan-end
+slice_bounds-put_plan-end c =
+    sym (length-take-le _ c.compile.new.plan (plan-held c.args.table.now _ _ refl c.in-Ok.written c.in-Ok.ensures).0)
+
+pub put_plan-requires : goal.put_plan-requires
+put_plan-requires c =
+    (plan-held c.args.table.now _ _ refl c.in-Ok.written c.in-Ok.ensures).1
+
+pub returns-in-Ok : goal.returns-in-Ok
+returns-in-Ok c =
+    rw (plan-printed c.args.table.now _ _ refl c.in-Ok.written c.in-Ok.ensures) at c.put_plan.ensures
+
+pub returns-in-Err : goal.returns-in-Err
+returns-in-Err c =
+    rw (refusal-printed c.args.table.now _ _ refl c.in-Err.refusal c.in-Err.ensures) at c.put_refusal.ensures

@@ -2,18 +2,10 @@
 use Rattle.report.proofs.TableLaws.{ragged_prints, table-first}
 use Rattle.report.proofs.put_ragged.Goals as goal
 
-pub returns-in-Accepted : goal.returns-in-Accepted
-returns-in-Accepted c =
-    let args = c.args in
-    let a = c.table_verdict-verdict.result in
-    let v = c.table_verdict-verdict.ensures in
-    rw (ragged_prints args.table.now args.columns.now args.line a v.verdict v.accepted c.in-Accepted.is) c.put_bad_line.ensures
+pub returns-in-Ok : goal.returns-in-Ok
+returns-in-Ok c = rw (ragged_prints c.args.table.now c.args.columns.now c.args.line c.in-Ok.ensures.verdict) c.put_bad_line.ensures
 
-pub returns-in-Refused : goal.returns-in-Refused
-returns-in-Refused c =
-    let args = c.args in
-    let a = c.table_verdict-verdict.result in
-    let v = c.table_verdict-verdict.ensures in
-    rw (table-first args.table.now args.columns.now args.line a v.verdict v.accepted c.in-Refused.is
-    _ _ c.number_of.ensures c.place_of.ensures)
-    c.put_refused.ensures
+pub returns-in-Err : goal.returns-in-Err
+returns-in-Err c =
+    let v = c.in-Err.ensures in
+    rw (table-first c.args.table.now c.args.columns.now c.args.line v.verdict v.accepted) c.put_refusal.ensures

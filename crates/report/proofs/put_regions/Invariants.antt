@@ -1,5 +1,4 @@
 -- `put_regions`: the lines of the first r regions are written over the beginning.
-use Prim.Native.Nat.{◌-◌, ◌≤◌}
 use Rattle.gates.specs.Gate.{regions}
 use Rattle.resolve.specs.Inner.Reading.{gates_at}
 use Rattle.events.proofs.PrintingLaws.{Written}
@@ -8,7 +7,4 @@ use Rattle.report.proofs.put_regions.Given as goal
 
 abbrev pub invariant-loop-r : goal.invariant-loop-r
 invariant-loop-r l =
-    (l.r ≤ l.m) × Written (region_lines (regions (gates_at l.text l.starts.at l.n)) (count_numbers l.tally.counts) l.r) l.initial.out l.at l.out
-
-abbrev pub decreases-loop-r : goal.decreases-loop-r
-decreases-loop-r l = l.m - l.r
+    Written (region_lines (regions (gates_at l.table.text.now l.table.starts l.table.gates)) (count_numbers l.counts) l.r) l.initial.out l.at l.out

@@ -1,16 +1,19 @@
 -- The places where the lines of a text begin, and its gates, read through a list of such places. `gates-read` in proofs/ says that they are the table's.
-use Rattle.std.specs.Prelude.{List, map, ℕ, ◌+◌, length, get_or, replicate}
+use Rattle.std.specs.Prelude.{List, map, ℕ, ◌+◌, ◌-◌, length, get_or, replicate}
 use Rattle.text.specs.Bounded.{tab}
 use Rattle.text.specs.Lines.{lines, fields}
 use Rattle.text.specs.Inner.Places.{line_starts, line_from}
 use Rattle.text.specs.Output.{over}
 use Rattle.gates.specs.Gate.{Gate, Region, regions}
 use Rattle.tables.specs.Head.{dimensions, line_gate}
-use Rattle.resolve.specs.declared.Starts.{Starts}
 
--- the places of the first 66 lines, and how many lines there are
-unfoldable pub starts_of : List ℕ → Starts
-starts_of text = record { at = over (line_starts text) (replicate 66 0); lines = length (lines text) }
+-- the places of the first 66 lines
+unfoldable pub starts_of : List ℕ → List ℕ
+starts_of text = over (line_starts text) (replicate 66 0)
+
+-- how many gate lines there are
+abbrev pub gate_count : List ℕ → ℕ
+gate_count text = length (lines text) - 1
 
 -- gate line i, whose place stands behind that of the head
 unfoldable pub line_at : List ℕ → List ℕ → ℕ → List ℕ

@@ -1,13 +1,6 @@
--- `put_plan`: the refusal of the plan, or what follows one that passes.
-use Rattle.runreport.proofs.RunLaws.{plan-passed, plan-refused}
+-- `put_plan`: the refusal of the plan.
+use Rattle.runreport.proofs.RunLaws.{plan-refused}
 use Rattle.runreport.proofs.put_plan.Goals as goal
 
-pub put_events-requires : goal.put_events-requires
-put_events-requires c =
-    (c.requires.0, c.requires.1, plan-passed _ c.check-form.ensures c.in-Passed.is)
-
-pub returns-in-Refused : goal.returns-in-Refused
-returns-in-Refused c =
-    rw (plan-refused c.args.plan.now c.check-form.ensures c.in-Refused.r c.in-Refused.is c.number_of.ensures
-    c.place_of.ensures)
-    c.put_refused.ensures
+pub returns-in-Err : goal.returns-in-Err
+returns-in-Err c = rw (plan-refused c.args.plan.now c.check.ensures c.in-Err.refusal c.in-Err.is) c.put_refusal.ensures

@@ -9,6 +9,11 @@ use Rattle.events.specs.Printing.{numbers_line}
 use Rattle.report.specs.Report.{region_lines}
 use Rattle.stepwriter.specs.Inner.Parents.{number_of_parent}
 use Rattle.sheet.specs.Inner.Columns.{column_of}
+use Rattle.sheet.specs.declared.numbers.Columns.{Columns}
+
+-- number r of each list
+abbrev pub column : Columns → ℕ → List ℕ
+column c r = column_of c.numbers.now c.lists r
 
 -- the count of the region of that number; the number taken for 64, where there is none
 unfoldable pub count_by : Tally → ℕ → ℕ
@@ -31,8 +36,7 @@ lines_by text columns k t =
     let rs = regions (gates text) in
     (region_lines rs (numbers_by rs columns k t) (length rs) ++ summaries_by columns k t) ++ numbers_line (bytes "events") ((t.taken + t.spoilt) ∷ [])
 
--- a place at which a line begins, so many lists, and one of the 67 numbers of each
-pub record Placed (at k r : ℕ) : Type 0 where
+-- a place at which a line begins, and one of the 67 numbers of each list
+pub record Placed (at r : ℕ) : Type 0 where
   pub near : at ≤ 1000000000
-  pub few : k ≤ 9362
   pub within : r < 67

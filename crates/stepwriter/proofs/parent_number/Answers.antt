@@ -4,12 +4,8 @@ use Rattle.stepwriter.proofs.parent_number.Goals as goal
 
 pub returns-then-is_none : goal.returns-then-is_none
 unfolding parent_number
-returns-then-is_none c =
-    let parent-field = c.parent_field-x in
-    rw (← parent-field.ensures, ← c.is_none.ensures, c.if-is_none.true)
+returns-then-is_none c = rw (← c.parent_field-name.ensures, ← c.is_none.ensures, c.if-is_none.true)
 
-pub returns : goal.returns
+pub returns-else-is_none : goal.returns-else-is_none
 unfolding parent_number
-returns c =
-    let parent-field = c.parent_field-x in
-    rw (← parent-field.ensures, ← c.is_none.ensures, c.if-is_none.false) c.number_of.ensures
+returns-else-is_none c = rw (← c.parent_field-name.ensures, ← c.is_none.ensures, c.if-is_none.false) c.number_of.ensures

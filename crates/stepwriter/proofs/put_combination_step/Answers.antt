@@ -1,10 +1,6 @@
 -- `put_combination_step` meets its contract: the header and the first j operands are written over the beginning.
-use mathlib.Core.Path.{◌≡◌, refl, ◌∙◌, ap}
-use native.Mathlib.Omega.{arith}
-use borrow.Author.Rules.{rules}
-use lib.ListN.{length, length-set}
+use Rattle.std.proofs.Common.{◌≡◌, arith}
 use Rattle.text.specs.Lines.{fields}
-use Rattle.text.proofs.OutputLaws.{over-length}
 use Rattle.gates.specs.Inner.Regions.{body_length}
 use Rattle.resolve.specs.Inner.Reading.{regions_at}
 use Rattle.writer.specs.Inner.Words.{operand_at}
@@ -15,36 +11,27 @@ use Rattle.stepwriter.proofs.put_combination_step.Goals as goal
 pub loop-j-init : goal.loop-j-init
 loop-j-init c =
     let w = rw (c.step_number.ensures, c.body_length-m.ensures) at c.put_header.ensures.1 in
-    (search rules, refl, step_begun _ _ _ _ _ _ w)
+    step_begun _ _ _ _ _ _ w
 
 pub overflow_add-j : goal.overflow_add-j
-overflow_add-j c =
-    omega (arith, body-length_le c.args.line.now)
+overflow_add-j c = omega (arith, body-length_le c.args.line.now)
 
 pub loop-j-preserved : goal.loop-j-preserved
-loop-j-preserved c = (
-  search rules,
-  rw (c.put_operand.ensures, length-set) c.loop-j.invariant.1,
-  rw c.put_operand.ensures
-      (operand_more _ _ _ _ _ _ _ _ c.loop-j.invariant.2 c.operand_field-x.ensures c.operand_name.ensures c.number_of-number.ensures
-      c.is_complement.ensures),
-)
+loop-j-preserved c =
+    rw c.put_operand.ensures
+    (operand_more _ _ _ _ _ _ _ _ c.loop-j.invariant c.operand_field-operand.ensures c.operand_name.ensures c.number_of-number.ensures c.is_complement.ensures)
 
 pub overflow_add-result : goal.overflow_add-result
-overflow_add-result c =
-    omega (arith, body-length_le c.args.line.now)
-
-pub shape_of-rest : goal.shape_of-rest
-shape_of-rest c =
-    let put-header = c.put_header in
-    c.loop-j.invariant.1 ∙ ap length put-header.ensures.1 ∙ over-length _ _
+overflow_add-result c = omega (arith, body-length_le c.args.line.now)
 
 pub returns : goal.returns
 returns c =
     let loop = c.loop-j in
     let args = c.args in
-    let w = rw (c.step_number.ensures, c.body_length-m.ensures) at c.put_header.ensures.1 in
-    let e : loop.j ≡ body_length (fields args.line.now) = omega arith in
+    let table = args.table.now in
+    let whole = c.loop-j-test.false in
     let fs = fields args.line.now in
-    let word = operand_at (regions_at args.text.now args.starts.at args.n) fs in
-    (omega (arith, step-length fs args.region args.parent word), rw (loop.invariant.2, e) (step-again _ _ _ _ _ _ _ w))
+    let w = rw (c.step_number.ensures, c.body_length-m.ensures) at c.put_header.ensures.1 in
+    let e : loop.j ≡ body_length fs = omega arith in
+    let word = operand_at (regions_at table.text.now table.starts table.gates) fs in
+    (omega (arith, step-length fs args.region args.parent word), rw (loop.invariant, e) (step-again _ _ _ _ _ _ _ w))

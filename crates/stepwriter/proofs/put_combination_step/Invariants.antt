@@ -1,8 +1,6 @@
 -- `put_combination_step` meets its contract: the header and the first j operands are written over the beginning.
 use mathlib.Core.Path.{◌≡◌}
 use mathlib.Core.List.{◌++◌}
-use Prim.Native.Nat.{◌≤◌, ◌-◌}
-use lib.ListN.{length}
 use Rattle.text.specs.Bounded.{tab}
 use Rattle.text.specs.Lines.{fields}
 use Rattle.text.specs.Output.{over}
@@ -14,9 +12,5 @@ use Rattle.stepwriter.proofs.put_combination_step.Given as goal
 
 abbrev pub invariant-loop-j : goal.invariant-loop-j
 invariant-loop-j l =
-    (l.j ≤ l.m) × (length l.rest ≡ length l.initial.rest)
-    × (l.rest ≡ over (header (step_number (line_kind (fields l.line))) l.region l.parent (body_length (fields l.line))
-    ++ tab (operand_at (regions_at l.text l.starts.at l.n) (fields l.line)) l.j) l.initial.rest)
-
-abbrev pub decreases-loop-j : goal.decreases-loop-j
-decreases-loop-j l = l.m - l.j
+    l.rest ≡ over (header (step_number (line_kind (fields l.line))) l.region l.parent (body_length (fields l.line))
+    ++ tab (operand_at (regions_at l.table.text.now l.table.starts l.table.gates) (fields l.line)) l.j) l.initial.rest

@@ -1,5 +1,5 @@
 -- What gate lines that are read through their places say of each other's names.
-use Rattle.std.specs.Prelude.{◌≡◌, Bool, true, not, ◌||◌, List, ℕ, ◌<◌, length}
+use Rattle.std.specs.Prelude.{◌≡◌, Bool, true, not, ◌||◌, cond, List, ℕ, ◌<◌, ltb, length, Option, Some, None}
 use Rattle.plans.specs.Indices.{any}
 use Rattle.tables.specs.Head.{dimensions, gate_lines}
 use Rattle.tables.specs.Refusals.{line_good}
@@ -21,3 +21,7 @@ repeats_at text starts i = not (own_different (fields_at text starts i)) || any 
 -- gate i refers to gate j
 unfoldable pub refers_by : List ℕ → List ℕ → ℕ → ℕ → Bool
 refers_by text starts i j = refers_line (fields_at text starts i) (fields_at text starts j)
+
+-- the index, if it is below n
+abbrev pub below : ℕ → ℕ → Option ℕ
+below n i = cond (ltb i n) (Some i) None

@@ -2,11 +2,7 @@
 use Rattle.tableregions.proofs.ReferenceLaws.{Gathered}
 use Rattle.text.specs.Lines.{fields}
 use Rattle.resolve.specs.Inner.Reading.{regions_at}
-use Prim.Native.Nat.{◌-◌, ◌≤◌}
 use Rattle.tableregions.proofs.region_row.Given as goal
 
 abbrev pub invariant-loop-k : goal.invariant-loop-k
-invariant-loop-k l = (2 ≤ l.k) × (l.k ≤ l.end) × Gathered (regions_at l.text l.starts.at l.n) (fields l.line) l.k l.row
-
-abbrev pub decreases-loop-k : goal.decreases-loop-k
-decreases-loop-k l = l.end - l.k
+invariant-loop-k l = Gathered (regions_at l.table.text.now l.table.starts l.table.gates) (fields l.line) l.k l.row

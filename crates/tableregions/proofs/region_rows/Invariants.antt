@@ -4,12 +4,8 @@ use Rattle.graph.specs.Inner.Rows.{zero_rows}
 use Rattle.text.specs.Bounded.{tab}
 use Rattle.text.specs.Output.{over}
 use Rattle.resolve.specs.Inner.Reading.{regions_at}
-use Prim.Native.Nat.{◌-◌, ◌≤◌}
 use mathlib.Core.Path.{◌≡◌}
 use Rattle.tableregions.proofs.region_rows.Given as goal
 
 abbrev pub invariant-loop-r : goal.invariant-loop-r
-invariant-loop-r l = (l.r ≤ 64) × (l.rows.bits ≡ over (tab (row_of (regions_at l.text l.starts.at l.n)) l.r) zero_rows)
-
-abbrev pub decreases-loop-r : goal.decreases-loop-r
-decreases-loop-r l = 64 - l.r
+invariant-loop-r l = l.rows.bits ≡ over (tab (row_of (regions_at l.table.text.now l.table.starts l.table.gates)) l.r) zero_rows

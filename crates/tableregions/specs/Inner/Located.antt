@@ -1,5 +1,5 @@
 -- Where a region of the gates that are read stands, and the rows of what regions refer to.
-use Rattle.std.specs.Prelude.{Bool, List, [], ◌∷◌, ℕ, ◌+◌, ◌-◌, leb, length}
+use Rattle.std.specs.Prelude.{Bool, cond, List, [], ◌∷◌, ℕ, ◌+◌, ◌-◌, leb, ltb, length, Option, Some, None}
 use Rattle.plans.specs.Bits.{with_bit}
 use Rattle.plans.specs.Indices.{first_bad}
 use Rattle.gates.specs.Gate.{Name, Region}
@@ -19,6 +19,10 @@ gate_of_region text starts n r = first_bad (ends_before text starts r) 0 n
 unfoldable pub located_at : List ℕ → List ℕ → ℕ → ℕ → Located
 located_at text starts n r =
     record { gate = gate_of_region text starts n r; quadrant = r - length (regions_at text starts (gate_of_region text starts n r)) }
+
+-- that place, if the gate is one of n
+abbrev pub in_table : ℕ → Located → Option Located
+in_table n place = cond (ltb place.gate n) (Some place) None
 
 -- a set with the numbers put into it of the regions with these names
 abbrev pub with_numbers : List Region → ℕ → List Name → ℕ

@@ -7,7 +7,7 @@ use Rattle.integers.specs.Inner.Machine.{Var, seens, Asked}
 use Rattle.wide.specs.Inner.Values.{wrapped}
 
 -- the calls that make a `Wide`:
---     single e     of(e), or a `Wide` whose value is known to be e's
+--     single e     Wide::from(e), or a `Wide` whose value is known to be e's
 --     a ⊠ b        times(a, b)
 --     s ⊞ t        plus(s, t)
 --     s ⊟ t        minus(s, t)

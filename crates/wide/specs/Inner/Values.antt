@@ -3,8 +3,8 @@ use Rattle.std.specs.Prelude.{ℕ, suc, ◌+◌, ◌-◌, ◌*◌, ◌%◌, ◌^
 use Rattle.std.specs.Int.{w128}
 use Rattle.std.proofs.Common.{to_z}
 use Rattle.wide.specs.declared.Wide.{Wide}
-use Rattle.wide.specs.declared.Order.{Order}
-use Rattle.wide.specs.declared.Order.TheVariants.{Less, Equal, Greater}
+use Rattle.std.specs.declared.cmp.Ordering.{Ordering}
+use Rattle.std.specs.declared.cmp.Ordering.TheVariants.{Less, Equal, Greater}
 
 -- the 128 bits as a number from 0 on
 abbrev pub bits : Wide → ℕ
@@ -24,5 +24,5 @@ unfoldable pub wrapped : ℤ → ℤ
 wrapped z = to_z w128 (residue z)
 
 -- how x compares with y
-abbrev pub order_of : ℤ → ℤ → Order
+abbrev pub order_of : ℤ → ℤ → Ordering
 order_of x y = cond (int_lt x y) Less (cond (int_lt y x) Greater Equal)

@@ -7,4 +7,4 @@ use Rattle.writer.proofs.number_word.Goals as goal
 
 pub returns : goal.returns
 unfolding number_word
-returns c = rw (to_z_pos w32 c.lesser.result (omega arith), c.lesser.ensures)
+returns c = rw (to_z_pos w32 c.min.result (omega arith), c.min.ensures)

@@ -10,10 +10,10 @@ pub returns-then-complement : goal.returns-then-complement
 unfolding operand_number_word
 returns-then-complement c =
     rw (to_z-of_z w32 _ (record { sfits = c.number_word.type_inv }), c.number_word.ensures, c.if-complement.true)
-    (twice-held _ c.args.region 1 (omega (arith, c.lesser-twice.ensures)))
+    (twice-held _ c.args.region 1 (omega (arith, c.min-twice.ensures)))
 
 pub returns : goal.returns
 unfolding operand_number_word
 returns c =
     rw (to_z-of_z w32 _ (record { sfits = c.number_word-2.type_inv }), c.number_word-2.ensures, c.if-complement.false)
-    (twice-held _ c.args.region 0 (omega (arith, c.lesser-twice.ensures)))
+    (twice-held _ c.args.region 0 (omega (arith, c.min-twice.ensures)))

@@ -10,6 +10,6 @@ pub returns-then-parent-lt64 : goal.returns-then-parent-lt64
 unfolding parent_number_word
 returns-then-parent-lt64 c = let p = c.args.parent in rw (to_z_pos w32 p (omega arith), lt-ltb p 64 c.if-parent-lt64.true)
 
-pub returns : goal.returns
+pub returns-else-parent-lt64 : goal.returns-else-parent-lt64
 unfolding parent_number_word
-returns c = rw (le-ltb c.args.parent 64 c.if-parent-lt64.false)
+returns-else-parent-lt64 c = rw (le-ltb c.args.parent 64 c.if-parent-lt64.false)

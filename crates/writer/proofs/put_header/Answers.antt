@@ -13,16 +13,16 @@ returns c =
     let a = c.args in (
       refl,
       rw (
-        c.put_word-4.ensures,
+        c.put-4.ensures,
         to_z-of_z w32 _ (record { sfits = c.number_word-2.type_inv }),
         c.number_word-2.ensures,
-        c.put_word-3.ensures,
+        c.put-3.ensures,
         to_z-of_z w32 _ (record { sfits = c.parent_word.type_inv }),
         c.parent_word.ensures,
-        c.put_word-2.ensures,
+        c.put-2.ensures,
         to_z-of_z w32 _ (record { sfits = c.number_word.type_inv }),
         c.number_word.ensures,
-        c.put_word.ensures,
+        c.put.ensures,
         to_z_pos w32 a.kind (omega arith),
       ) (four-words _ _ _ _ _),
     )

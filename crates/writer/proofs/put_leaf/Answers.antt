@@ -14,21 +14,16 @@ use Rattle.writer.proofs.put_leaf.Goals as goal
 
 pub loop-i-init : goal.loop-i-init
 unfolding over
-loop-i-init c = (search rules, refl)
+loop-i-init c = refl
 
 pub loop-i-preserved : goal.loop-i-preserved
 loop-i-preserved c =
-    let a = c.args in (
-      search rules,
-      rw (c.put_word.ensures, to_z-of_z w32 _ (record { sfits = c.word_of.type_inv }), c.word_of.ensures, c.loop-i.invariant.1)
-          (tab-more (body_word_of (drop 1 (fields a.head.now)) (fields a.line.now) a.q) a.rest.now c.loop-i.i),
-    )
-
-pub shape_of-rest : goal.shape_of-rest
-shape_of-rest c = ap length c.loop-i.invariant.1 ∙ over-length _ _
+    let a = c.args in
+    rw (c.put.ensures, to_z-of_z w32 _ (record { sfits = c.word_of.type_inv }), c.word_of.ensures, c.loop-i.invariant)
+    (tab-more (body_word_of (drop 1 (fields a.head.now)) (fields a.line.now) a.q) a.rest.now c.loop-i.i)
 
 pub returns : goal.returns
 returns c =
     let e : c.loop-i.i ≡ body_length (fields c.args.line.now) = omega arith in
     let a = c.args in
-    (e ∙ sym (length-tab (body_word_of (drop 1 (fields a.head.now)) (fields a.line.now) a.q) _), rw (c.loop-i.invariant.1, e))
+    (c.body_length-n.ensures ∙ sym (length-tab (body_word_of (drop 1 (fields a.head.now)) (fields a.line.now) a.q) _), rw (c.loop-i.invariant, e))

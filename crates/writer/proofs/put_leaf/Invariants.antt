@@ -1,7 +1,5 @@
 -- `put_leaf` meets its contract: the first i words of the body are written over the beginning.
-use mathlib.Core.Path.{◌≡◌}
-use Prim.Native.Nat.{◌≤◌, ◌-◌}
-use lib.ListN.{drop}
+use Rattle.std.proofs.Common.{◌≡◌, drop}
 use Rattle.text.specs.Bounded.{tab}
 use Rattle.text.specs.Lines.{fields}
 use Rattle.text.specs.Output.{over}
@@ -9,7 +7,4 @@ use Rattle.gates.specs.Inner.Regions.{body_word_of}
 use Rattle.writer.proofs.put_leaf.Given as goal
 
 abbrev pub invariant-loop-i : goal.invariant-loop-i
-invariant-loop-i l = (l.i ≤ l.n) × (l.rest ≡ over (tab (body_word_of (drop 1 (fields l.head)) (fields l.line) l.q) l.i) l.initial.rest)
-
-abbrev pub decreases-loop-i : goal.decreases-loop-i
-decreases-loop-i l = l.n - l.i
+invariant-loop-i l = l.rest ≡ over (tab (body_word_of (drop 1 (fields l.head)) (fields l.line) l.q) l.i) l.initial.rest

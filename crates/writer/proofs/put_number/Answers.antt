@@ -5,4 +5,4 @@ use Rattle.writer.proofs.put_number.Goals as goal
 
 pub returns : goal.returns
 returns c =
-    rw (c.put_word.ensures, to_z-of_z w32 _ (record { sfits = c.number_word.type_inv }), c.number_word.ensures)
+    rw (c.put.ensures, to_z-of_z w32 _ (record { sfits = c.number_word.type_inv }), c.number_word.ensures)

@@ -19,9 +19,10 @@ use Rattle.counter.proofs.decimal_ellipse.decimal_ellipse_position.Goals.{Start}
 -- the variables, that each is within its bound, and the two sides as the code computes them
 abbrev vs : Start → List Var
 vs c =
-    let a = c.args in
-    short 65536 a.m1 ∷ short 65536 a.m2 ∷ short 2000000000 a.c11 ∷ short 2000000000 a.c12 ∷ short 2000000000 a.c22 ∷ short 4096000 a.d2
-    ∷ short 65536 a.x ∷ short 65536 a.y ∷ []
+    let o = c.args.oval in
+    let p = c.args.point in
+    short 65536 o.m1 ∷ short 65536 o.m2 ∷ short 2000000000 o.c11 ∷ short 2000000000 o.c12 ∷ short 2000000000 o.c22 ∷ short 4096000 o.d2
+    ∷ short 65536 p.x ∷ short 65536 p.y ∷ []
 
 known : (c : Start) → All w64 (vs c)
 known c = search (in_mag, in_of-positive)
@@ -49,43 +50,43 @@ asks : (c : Start) → SumNeeds (vs c) L × SumNeeds (vs c) R
 asks c = (sum_needs (vs c) (known c) L tt, sum_needs (vs c) (known c) R tt)
 
 pub overflow_cast-dx : goal.overflow_cast-dx
-overflow_cast-dx c = search (casts c)
+overflow_cast-dx c = search (casts (goal.at.overflow_cast-dx c).Start)
 
 pub overflow_cast-dx-2 : goal.overflow_cast-dx-2
-overflow_cast-dx-2 c = search (casts c)
+overflow_cast-dx-2 c = search (casts (goal.at.overflow_cast-dx-2 c).Start)
 
 pub overflow_sub-dx : goal.overflow_sub-dx
-overflow_sub-dx c = search (asks c)
+overflow_sub-dx c = search (asks (goal.at.overflow_sub-dx c).Start)
 
 pub overflow_cast-dy : goal.overflow_cast-dy
-overflow_cast-dy c = search (casts c)
+overflow_cast-dy c = search (casts (goal.at.overflow_cast-dy c).Start)
 
 pub overflow_cast-dy-2 : goal.overflow_cast-dy-2
-overflow_cast-dy-2 c = search (casts c)
+overflow_cast-dy-2 c = search (casts (goal.at.overflow_cast-dy-2 c).Start)
 
 pub overflow_sub-dy : goal.overflow_sub-dy
-overflow_sub-dy c = search (asks c)
+overflow_sub-dy c = search (asks (goal.at.overflow_sub-dy c).Start)
 
 pub overflow_cast-p : goal.overflow_cast-p
-overflow_cast-p c = search (casts c)
+overflow_cast-p c = search (casts (goal.at.overflow_cast-p c).Start)
 
 pub overflow_cast-q : goal.overflow_cast-q
-overflow_cast-q c = search (casts c)
+overflow_cast-q c = search (casts (goal.at.overflow_cast-q c).Start)
 
 pub overflow_cast-r : goal.overflow_cast-r
-overflow_cast-r c = search (casts c)
+overflow_cast-r c = search (casts (goal.at.overflow_cast-r c).Start)
 
 pub overflow_mul-r : goal.overflow_mul-r
-overflow_mul-r c = search (asks c)
+overflow_mul-r c = search (asks (goal.at.overflow_mul-r c).Start)
 
 pub overflow_mul-q : goal.overflow_mul-q
-overflow_mul-q c = search (asks c)
+overflow_mul-q c = search (asks (goal.at.overflow_mul-q c).Start)
 
 pub overflow_sub-r : goal.overflow_sub-r
-overflow_sub-r c = search (asks c)
+overflow_sub-r c = search (asks (goal.at.overflow_sub-r c).Start)
 
 pub overflow_mul-dx : goal.overflow_mul-dx
-overflow_mul-dx c = search (asks c)
+overflow_mul-dx c = search (asks (goal.at.overflow_mul-dx c).Start)
 
 pub overflow_mul-p : goal.overflow_mul-p
 overflow_mul-p c = search (asks (goal.at.overflow_mul-p c).Start)
@@ -99,8 +100,8 @@ overflow_sub-p c = search (asks (goal.at.overflow_sub-p c).Start)
 pub overflow_mul-dy : goal.overflow_mul-dy
 overflow_mul-dy c = search (asks (goal.at.overflow_mul-dy c).Start)
 
-pub overflow_cast-d2 : goal.overflow_cast-d2
-overflow_cast-d2 c = search (casts (goal.at.overflow_cast-d2 c).Start)
+pub overflow_cast-oval : goal.overflow_cast-oval
+overflow_cast-oval c = search (casts (goal.at.overflow_cast-oval c).Start)
 
 pub overflow_mul-p-2 : goal.overflow_mul-p-2
 overflow_mul-p-2 c = search (asks (goal.at.overflow_mul-p-2 c).Start)
@@ -115,11 +116,12 @@ pub returns : goal.returns
 unfolding decimal_ellipse_position
 returns c =
     let entry = (goal.at.returns c).Start in
-    let a = c.args in
+    let o = c.args.oval in
+    let p = c.args.point in
     let l =
     plus-is c.plus-left.ensures c.times.ensures c.times-2.ensures
     ∙ sum-gives (vs entry) (known entry) L tt
     ∙ solve (values w64 (vs entry)) (flat L) F tt in
     let r = c.times-right.ensures ∙ sum-gives (vs entry) (known entry) R tt in
     c.position_by.ensures ∙ ap position_by (c.compare.ensures ∙ ap₂ order_of l r)
-    ∙ order_sides (decimal_left a.m1 a.m2 a.c11 a.c12 a.c22 a.x a.y) (decimal_right a.c11 a.c12 a.c22 a.d2)
+    ∙ order_sides (decimal_left o.m1 o.m2 o.c11 o.c12 o.c22 p.x p.y) (decimal_right o.c11 o.c12 o.c22 o.d2)

@@ -17,9 +17,10 @@ use Rattle.counter.proofs.ellipse.ellipse_position.Goals.{Start}
 -- the variables, that each is within its bound, and the two sides
 abbrev vs : Start → List Var
 vs c =
-    let a = c.args in
-    short 65536 a.m1 ∷ short 65536 a.m2 ∷ short 16777216 a.c11 ∷ short 16777216 a.c12 ∷ short 16777216 a.c22 ∷ short 4096 a.d2
-    ∷ short 65536 a.x ∷ short 65536 a.y ∷ []
+    let o = c.args.oval in
+    let p = c.args.point in
+    short 65536 o.m1 ∷ short 65536 o.m2 ∷ short 16777216 o.c11 ∷ short 16777216 o.c12 ∷ short 16777216 o.c22 ∷ short 4096 o.d2
+    ∷ short 65536 p.x ∷ short 65536 p.y ∷ []
 
 known : (c : Start) → All w64 (vs c)
 known c = search (in_mag, in_of-positive)
@@ -40,80 +41,80 @@ asks : (c : Start) → Needs w64 (vs c) L × Needs w64 (vs c) R
 asks c = (zneeds w64 (vs c) (known c) L tt, zneeds w64 (vs c) (known c) R tt)
 
 pub overflow_cast-dx : goal.overflow_cast-dx
-overflow_cast-dx c = search (asks c)
+overflow_cast-dx c = search (asks (goal.at.overflow_cast-dx c).Start)
 
 pub overflow_cast-dx-2 : goal.overflow_cast-dx-2
-overflow_cast-dx-2 c = search (asks c)
+overflow_cast-dx-2 c = search (asks (goal.at.overflow_cast-dx-2 c).Start)
 
 pub overflow_sub-dx : goal.overflow_sub-dx
-overflow_sub-dx c = search (asks c)
+overflow_sub-dx c = search ((asks (goal.at.overflow_sub-dx c).Start).0)
 
 pub overflow_cast-dy : goal.overflow_cast-dy
-overflow_cast-dy c = search (asks c)
+overflow_cast-dy c = search (asks (goal.at.overflow_cast-dy c).Start)
 
 pub overflow_cast-dy-2 : goal.overflow_cast-dy-2
-overflow_cast-dy-2 c = search (asks c)
+overflow_cast-dy-2 c = search (asks (goal.at.overflow_cast-dy-2 c).Start)
 
 pub overflow_sub-dy : goal.overflow_sub-dy
-overflow_sub-dy c = search (asks c)
+overflow_sub-dy c = search (asks (goal.at.overflow_sub-dy c).Start)
 
 pub overflow_cast-p : goal.overflow_cast-p
-overflow_cast-p c = search (asks c)
+overflow_cast-p c = search (asks (goal.at.overflow_cast-p c).Start)
 
 pub overflow_cast-q : goal.overflow_cast-q
-overflow_cast-q c = search (asks c)
+overflow_cast-q c = search (asks (goal.at.overflow_cast-q c).Start)
 
 pub overflow_cast-r : goal.overflow_cast-r
-overflow_cast-r c = search (asks c)
+overflow_cast-r c = search (asks (goal.at.overflow_cast-r c).Start)
 
 pub overflow_mul-form : goal.overflow_mul-form
-overflow_mul-form c = search (asks c)
+overflow_mul-form c = search (asks (goal.at.overflow_mul-form c).Start)
 
 pub overflow_mul-form-2 : goal.overflow_mul-form-2
-overflow_mul-form-2 c = search (asks c)
+overflow_mul-form-2 c = search (asks (goal.at.overflow_mul-form-2 c).Start)
 
 pub overflow_mul-form-3 : goal.overflow_mul-form-3
-overflow_mul-form-3 c = search (asks c)
+overflow_mul-form-3 c = search ((asks (goal.at.overflow_mul-form-3 c).Start).0)
 
 pub overflow_mul-form-4 : goal.overflow_mul-form-4
-overflow_mul-form-4 c = search (asks c)
+overflow_mul-form-4 c = search (asks (goal.at.overflow_mul-form-4 c).Start)
 
 pub overflow_mul-form-5 : goal.overflow_mul-form-5
-overflow_mul-form-5 c = search (asks c)
+overflow_mul-form-5 c = search (asks (goal.at.overflow_mul-form-5 c).Start)
 
 pub overflow_sub-form : goal.overflow_sub-form
-overflow_sub-form c = search (asks c)
+overflow_sub-form c = search (asks (goal.at.overflow_sub-form c).Start)
 
 pub overflow_mul-form-6 : goal.overflow_mul-form-6
-overflow_mul-form-6 c = search (asks c)
+overflow_mul-form-6 c = search (asks (goal.at.overflow_mul-form-6 c).Start)
 
 pub overflow_mul-form-7 : goal.overflow_mul-form-7
-overflow_mul-form-7 c = search (asks c)
+overflow_mul-form-7 c = search (asks (goal.at.overflow_mul-form-7 c).Start)
 
 pub overflow_add-form : goal.overflow_add-form
-overflow_add-form c = search (asks c)
+overflow_add-form c = search (asks (goal.at.overflow_add-form c).Start)
 
 pub overflow_cast-limit : goal.overflow_cast-limit
-overflow_cast-limit c = search (asks c)
+overflow_cast-limit c = search (asks (goal.at.overflow_cast-limit c).Start)
 
 pub overflow_mul-limit : goal.overflow_mul-limit
-overflow_mul-limit c = search (asks c)
+overflow_mul-limit c = search (asks (goal.at.overflow_mul-limit c).Start)
 
 pub overflow_mul-limit-2 : goal.overflow_mul-limit-2
-overflow_mul-limit-2 c = search (asks c)
+overflow_mul-limit-2 c = search (asks (goal.at.overflow_mul-limit-2 c).Start)
 
 pub overflow_sub-limit : goal.overflow_sub-limit
-overflow_sub-limit c = search (asks c)
+overflow_sub-limit c = search (asks (goal.at.overflow_sub-limit c).Start)
 
 pub overflow_mul-limit-3 : goal.overflow_mul-limit-3
-overflow_mul-limit-3 c = search (asks c)
+overflow_mul-limit-3 c = search (asks (goal.at.overflow_mul-limit-3 c).Start)
 
 -- the two sides of the rule
 abbrev left : Start → ℤ
-left c = let a = c.args in form a.c11 a.c12 a.c22 (a.x -ℤ a.m1) (a.y -ℤ a.m2)
+left c = let o = c.args.oval in let p = c.args.point in form o.c11 o.c12 o.c22 (p.x -ℤ o.m1) (p.y -ℤ o.m2)
 
 abbrev right : Start → ℤ
-right c = let a = c.args in a.d2 *ℤ determinant a.c11 a.c12 a.c22
+right c = let o = c.args.oval in o.d2 *ℤ determinant o.c11 o.c12 o.c22
 
 pub returns-then-form-limit : goal.returns-then-form-limit
 unfolding ellipse_position

@@ -12,9 +12,8 @@ use Rattle.wide.specs.Inner.Values.{order_of}
 use Rattle.wide.specs.Inner.Sums.{Sum, ◌⊠◌, ◌⊞◌, SumNeeds}
 use Rattle.wide.proofs.OrderLaws.{order_sub}
 use Rattle.wide.proofs.SumLaws.{parts-fit, sum_needs, sum-gives, plus-is}
-use Rattle.plans.specs.Symmetric.{symmetric}
 use Rattle.counter.specs.Ellipsoid.{ellipsoid_left, ellipsoid_right, ellipsoid_position}
-use Rattle.counter.specs.Inner.Steps.{position_by}
+use Rattle.counter.specs.Inner.Steps.{position_by, matrix_of}
 use Rattle.counter.proofs.EllipsoidLaws.{gathered-is}
 use Rattle.counter.proofs.PositionLaws.{order_sides}
 use Rattle.counter.proofs.ellipsoid.ellipsoid_position.Goals as goal
@@ -23,10 +22,11 @@ use Rattle.counter.proofs.ellipsoid.ellipsoid_position.Goals.{Start}
 -- the variables, that each is within its bound, and the six products as the code computes them
 abbrev vs : Start → List Var
 vs c =
-    let a = c.args in
+    let a = c.args.solid in
+    let e = c.args.point in
     short 65536 a.m1 ∷ short 65536 a.m2 ∷ short 65536 a.m3
     ∷ short 16777216 a.c11 ∷ short 16777216 a.c12 ∷ short 16777216 a.c13 ∷ short 16777216 a.c22 ∷ short 16777216 a.c23 ∷ short 16777216 a.c33
-    ∷ short 4096 a.d2 ∷ short 65536 a.x ∷ short 65536 a.y ∷ short 65536 a.z ∷ []
+    ∷ short 4096 a.d2 ∷ short 65536 e.x ∷ short 65536 e.y ∷ short 65536 e.z ∷ []
 
 known : (c : Start) → All w64 (vs c)
 known c =
@@ -100,70 +100,70 @@ asks : (c : Start) (t : Sum) → T (parts-fit (vs c) t) → SumNeeds (vs c) t
 asks c t n = sum_needs (vs c) (known c) t n
 
 pub overflow_cast-dx : goal.overflow_cast-dx
-overflow_cast-dx c = search (casts c)
+overflow_cast-dx c = search (casts (goal.at.overflow_cast-dx c).Start)
 
 pub overflow_cast-dx-2 : goal.overflow_cast-dx-2
-overflow_cast-dx-2 c = search (casts c)
+overflow_cast-dx-2 c = search (casts (goal.at.overflow_cast-dx-2 c).Start)
 
 pub overflow_sub-dx : goal.overflow_sub-dx
-overflow_sub-dx c = search (asks c w11 tt)
+overflow_sub-dx c = search (asks (goal.at.overflow_sub-dx c).Start w11 tt)
 
 pub overflow_cast-dy : goal.overflow_cast-dy
-overflow_cast-dy c = search (casts c)
+overflow_cast-dy c = search (casts (goal.at.overflow_cast-dy c).Start)
 
 pub overflow_cast-dy-2 : goal.overflow_cast-dy-2
-overflow_cast-dy-2 c = search (casts c)
+overflow_cast-dy-2 c = search (casts (goal.at.overflow_cast-dy-2 c).Start)
 
 pub overflow_sub-dy : goal.overflow_sub-dy
-overflow_sub-dy c = search (asks c w22 tt)
+overflow_sub-dy c = search (asks (goal.at.overflow_sub-dy c).Start w22 tt)
 
 pub overflow_cast-dz : goal.overflow_cast-dz
-overflow_cast-dz c = search (casts c)
+overflow_cast-dz c = search (casts (goal.at.overflow_cast-dz c).Start)
 
 pub overflow_cast-dz-2 : goal.overflow_cast-dz-2
-overflow_cast-dz-2 c = search (casts c)
+overflow_cast-dz-2 c = search (casts (goal.at.overflow_cast-dz-2 c).Start)
 
 pub overflow_sub-dz : goal.overflow_sub-dz
-overflow_sub-dz c = search (asks c w33 tt)
+overflow_sub-dz c = search (asks (goal.at.overflow_sub-dz c).Start w33 tt)
 
 pub overflow_cast-p : goal.overflow_cast-p
-overflow_cast-p c = search (casts c)
+overflow_cast-p c = search (casts (goal.at.overflow_cast-p c).Start)
 
 pub overflow_cast-q : goal.overflow_cast-q
-overflow_cast-q c = search (casts c)
+overflow_cast-q c = search (casts (goal.at.overflow_cast-q c).Start)
 
 pub overflow_cast-r : goal.overflow_cast-r
-overflow_cast-r c = search (casts c)
+overflow_cast-r c = search (casts (goal.at.overflow_cast-r c).Start)
 
 pub overflow_cast-s : goal.overflow_cast-s
-overflow_cast-s c = search (casts c)
+overflow_cast-s c = search (casts (goal.at.overflow_cast-s c).Start)
 
 pub overflow_cast-t : goal.overflow_cast-t
-overflow_cast-t c = search (casts c)
+overflow_cast-t c = search (casts (goal.at.overflow_cast-t c).Start)
 
 pub overflow_cast-u : goal.overflow_cast-u
-overflow_cast-u c = search (casts c)
+overflow_cast-u c = search (casts (goal.at.overflow_cast-u c).Start)
 
 pub overflow_cast-d : goal.overflow_cast-d
-overflow_cast-d c = search (casts c)
+overflow_cast-d c = search (casts (goal.at.overflow_cast-d c).Start)
 
 pub overflow_mul-s : goal.overflow_mul-s
-overflow_mul-s c = search (asks c w11 tt)
+overflow_mul-s c = search (asks (goal.at.overflow_mul-s c).Start w11 tt)
 
 pub overflow_mul-t : goal.overflow_mul-t
-overflow_mul-t c = search (asks c w11 tt)
+overflow_mul-t c = search (asks (goal.at.overflow_mul-t c).Start w11 tt)
 
 pub overflow_sub-s : goal.overflow_sub-s
-overflow_sub-s c = search (asks c w11 tt)
+overflow_sub-s c = search (asks (goal.at.overflow_sub-s c).Start w11 tt)
 
 pub overflow_mul-dx : goal.overflow_mul-dx
-overflow_mul-dx c = search (asks c w11 tt)
+overflow_mul-dx c = search (asks (goal.at.overflow_mul-dx c).Start w11 tt)
 
 pub overflow_mul-d : goal.overflow_mul-d
-overflow_mul-d c = search (asks c w11 tt)
+overflow_mul-d c = search (asks (goal.at.overflow_mul-d c).Start w11 tt)
 
 pub overflow_sub-dx-2 : goal.overflow_sub-dx-2
-overflow_sub-dx-2 c = search (asks c w11 tt)
+overflow_sub-dx-2 c = search (asks (goal.at.overflow_sub-dx-2 c).Start w11 tt)
 
 pub overflow_mul-p : goal.overflow_mul-p
 overflow_mul-p c = search (asks (goal.at.overflow_mul-p c).Start w22 tt)
@@ -250,8 +250,9 @@ pub returns : goal.returns
 unfolding ellipsoid_position
 returns c =
     let entry = (goal.at.returns c).Start in
-    let a = c.args in
-    let matrix = symmetric a.c11 a.c12 a.c13 a.c22 a.c23 a.c33 in
+    let a = c.args.solid in
+    let e = c.args.point in
+    let matrix = matrix_of a in
     let first_two = plus-is c.plus.ensures c.times-w11.ensures c.times-w22.ensures in
     let squares = plus-is c.plus-2.ensures first_two c.times-w33.ensures in
     let next-two = plus-is c.plus-3.ensures c.times-w12.ensures c.times-w13.ensures in
@@ -259,9 +260,9 @@ returns c =
     let sum =
     plus-is c.plus-sum.ensures squares others
     ∙ sum-gives (vs entry) (known entry) all tt
-    ∙ gathered-is matrix (a.x -ℤ a.m1) (a.y -ℤ a.m2) (a.z -ℤ a.m3) a.d2 in
-    let left = ellipsoid_left a.m1 a.m2 a.m3 matrix a.x a.y a.z in
+    ∙ gathered-is matrix (e.x -ℤ a.m1) (e.y -ℤ a.m2) (e.z -ℤ a.m3) a.d2 in
+    let left = ellipsoid_left a.m1 a.m2 a.m3 matrix e.x e.y e.z in
     let right = ellipsoid_right matrix a.d2 in
     c.position_by.ensures
-    ∙ ap position_by (c.compare.ensures ∙ ap₂ order_of sum c.of.ensures ∙ order_sub left right)
+    ∙ ap position_by (c.compare.ensures ∙ ap₂ order_of sum c.from.ensures ∙ order_sub left right)
     ∙ order_sides left right

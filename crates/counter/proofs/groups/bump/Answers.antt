@@ -10,13 +10,12 @@ use Rattle.counter.specs.Counting.{list_from}
 use Rattle.counter.specs.Inner.Groups.{in_set}
 use Rattle.counter.specs.Inner.Raising.{bump_at}
 use Rattle.counter.proofs.TableLaws.{plus-odd, bump_read, bump_write, bump_done}
-use borrow.Author.Rules.{rules}
 use Rattle.counter.proofs.groups.bump.Goals as goal
 use Rattle.counter.proofs.groups.bump.Goals.{In-loop-r}
 
 pub loop-r-init : goal.loop-r-init
 unfolding list_from
-loop-r-init c = (omega arith, refl)
+loop-r-init c = refl
 
 -- in the loop: the place is below 64, and what is read is the old count, which has room
 module _ (in-loop : In-loop-r) where
@@ -36,7 +35,7 @@ module _ (in-loop : In-loop-r) where
   r = in-loop.loop-r.r
 
   counts_are : counts ≡ list_from (bump_at old (in_set sets e)) 0 r ++ drop r old
-  counts_are = in-loop.loop-r.invariant.1
+  counts_are = in-loop.loop-r.invariant
 
   low : r < 64
   low = omega arith
@@ -65,13 +64,13 @@ loop-r-preserved c =
     let in-loop-r = (goal.at.loop-r-preserved c).In-loop-r in
     let written = ap (λ (l : List ℕ). set l (r in-loop-r) (raised in-loop-r)) (counts_are in-loop-r) in
     let test = in_set (sets in-loop-r) (e in-loop-r) in
-    (search rules, written ∙ bump_write (old in-loop-r) test (r in-loop-r) (low in-loop-r) c.requires.0 (raised_is in-loop-r))
+    written ∙ bump_write (old in-loop-r) test (r in-loop-r) (low in-loop-r) c.requires.0 (raised_is in-loop-r)
 
 pub returns : goal.returns
 returns c =
     let loop = c.loop-r in
     let args = c.args in
     let q : loop.r ≡ args.m = omega arith in
-    loop.invariant.1
+    loop.invariant
     ∙ bump_done args.counts.now (in_set args.sets.now args.e) loop.r
     (λ s l u. c.requires.5 s (omega arith) u) (rw q c.requires.3) c.requires.0

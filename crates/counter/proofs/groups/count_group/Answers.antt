@@ -17,7 +17,6 @@ use Rattle.counter.proofs.SoundLaws.{passing}
 use Rattle.counter.proofs.TableLaws.{plus-odd}
 use Rattle.counter.proofs.TallyLaws.{with_taken, with_spoilt, taken-small, spoilt-small, unclaimed-small, counts-small, counts-long}
 use Rattle.counter.proofs.GroupLaws.{group-is, candidates, one-taken, one-spoilt, sets-low}
-use borrow.Author.Rules.{rules}
 use Rattle.counter.proofs.groups.count_group.Goals as goal
 use Rattle.counter.proofs.groups.count_group.Goals.{then-bit_in, else-bit_in, After-number_in-steps, In-loop-e, Start}
 
@@ -57,7 +56,7 @@ number_in-steps-requires c =
 
 pub loop-e-init : goal.loop-e-init
 loop-e-init c =
-    (omega arith, rw (add-zero (j (goal.at.loop-e-init c).Start)) c.requires.2)
+    rw (add-zero (j (goal.at.loop-e-init c).Start)) c.requires.2
 
 -- the number of steps is read
 module _ (after-number-in : After-number_in-steps) where
@@ -98,7 +97,7 @@ module _ (in-loop : In-loop-e) where
   e = in-loop.loop-e.e
 
   tally-is : t ≡ tally_of (plan entry) (events entry) (j entry + e)
-  tally-is = in-loop.loop-e.invariant.1
+  tally-is = in-loop.loop-e.invariant
 
   low : e < 64
   low = omega arith
@@ -168,16 +167,14 @@ unfolding has_bit
 loop-e-preserved c =
     let in-loop-e = (goal.at.loop-e-preserved c).In-loop-e in
     let bit = sym c.bit_in.ensures in
-    let raised = plus-odd (unclaimed in-loop-e / 2 ^ e in-loop-e) (t in-loop-e).unclaimed in (
-      search rules,
-      elim c.if-bit_in.branch [
-        | then-bit_in bumped ↦ more-taken in-loop-e (bit ∙ bumped.if-bit_in.true) (bumped.t-is ∙ rw (← bumped.bump.ensures, raised))
-        | else-bit_in spoilt ↦ more-spoilt in-loop-e (bit ∙ spoilt.if-bit_in.false) spoilt.t-is
-      ],
-    )
+    let raised = plus-odd (unclaimed in-loop-e / 2 ^ e in-loop-e) (t in-loop-e).unclaimed in
+    elim c.if-bit_in.branch [
+      | then-bit_in bumped ↦ more-taken in-loop-e (bit ∙ bumped.if-bit_in.true) (bumped.t-is ∙ rw (← bumped.bump.ensures, raised))
+      | else-bit_in spoilt ↦ more-spoilt in-loop-e (bit ∙ spoilt.if-bit_in.false) spoilt.t-is
+    ]
 
 pub returns : goal.returns
 returns c =
     let loop = c.loop-e in
     let q : loop.e ≡ g (goal.at.returns c).Start = omega arith in
-    rw q at loop.invariant.1
+    rw q at loop.invariant

@@ -27,12 +27,6 @@ module _ (c : Start) where
       let n : 2 ^ (c.args.to - c.args.from + c.args.from) ≤ 18446744073709551616 = rw q m in
       mod-eq_of_lt (omega arith)
 
-pub overflow_sub-result-2 : goal.overflow_sub-result-2
-overflow_sub-result-2 c = rw (ones c) (pow_pos (c.args.to - c.args.from))
-
-pub overflow_shl-result-2 : goal.overflow_shl-result-2
-overflow_shl-result-2 c = let p = c.requires in omega arith
-
 pub returns : goal.returns
 unfolding from_to
 returns c = rw (ones c, kept c) (record { each = λ e h. has_from-to c.args.from c.args.to (let p = c.requires in omega arith) e })

@@ -5,15 +5,15 @@ use native.Mathlib.Omega.{arith}
 use native.Mathlib.Nat.{mul-le-mul_right}
 use Rattle.counter.proofs.GroupLaws.{first-none}
 use Rattle.counter.proofs.groups.taken_of.Goals as goal
-use Rattle.counter.proofs.groups.taken_of.Goals.{After-least}
+use Rattle.counter.proofs.groups.taken_of.Goals.{After-min}
 
 pub loop-e-init : goal.loop-e-init
 loop-e-init c = (omega arith, first-none _)
 
 -- in the loop: the next events, eight or those that are left
-module _ (after-least : After-least) where
-  some : after-least.least.result ≤ after-least.args.g - after-least.loop-e.e
-  some = let q = after-least.least.ensures in omega arith
+module _ (after-min : After-min) where
+  some : after-min.min.result ≤ after-min.args.g - after-min.loop-e.e
+  some = let q = after-min.min.ensures in omega arith
 
 pub overflow_add-next : goal.overflow_add-next
 overflow_add-next c =
@@ -25,10 +25,10 @@ pub taken_some-taken-requires : goal.taken_some-taken-requires
 taken_some-taken-requires c =
     let loop = c.loop-e in
     let s = some c in
-    let q = c.least.ensures in
+    let q = c.min.ensures in
     let h = c.loop-e-test.true in
     let f = c.requires.0 in
-    let l : loop.e + c.least.result ≤ c.args.g = omega arith in
+    let l : loop.e + c.min.result ≤ c.args.g = omega arith in
     let m = mul-le-mul_right c.args.n l in
     let w = c.requires.1 in
     (omega arith, omega arith, omega arith, loop.invariant.1, omega arith)
@@ -36,13 +36,13 @@ taken_some-taken-requires c =
 pub loop-e-smaller : goal.loop-e-smaller
 loop-e-smaller c =
     let h = c.loop-e-test.true in
-    let q = c.least.ensures in
+    let q = c.min.ensures in
     omega arith
 
 pub loop-e-preserved : goal.loop-e-preserved
 loop-e-preserved c =
     let h = c.loop-e-test.true in
-    let s = some (goal.at.loop-e-preserved c).After-least in
+    let s = some (goal.at.loop-e-preserved c).After-min in
     (omega arith, c.taken_some-taken.ensures)
 
 pub returns : goal.returns

@@ -29,7 +29,7 @@ nonzero_rem-events c =
 pub returns-then-events-n-ne0 : goal.returns-then-events-n-ne0
 returns-then-events-n-ne0 c =
     let args = c.args in
-    ragged args.plan.now args.events.now c.number_in-n.ensures c.if-events-n-ne0.true c.no_tally-zero.ensures
+    ragged args.plan.now args.events.now c.number_in-n.ensures c.if-events-n-ne0.true
 
 pub nonzero_div-rest : goal.nonzero_div-rest
 unfolding width

@@ -15,7 +15,7 @@ use Rattle.counter.proofs.polygon.offset_of.Goals.{Start}
 abbrev vs : Start → List Var
 vs c =
     let a = c.args in
-    short 65536 (get_or a.v.now a.i (pos 0)) ∷ short 65536 (get_or a.v.now (a.i + 1) (pos 0)) ∷ short 65536 a.x ∷ short 65536 a.y ∷ []
+    short 65536 (get_or a.v.now a.i (pos 0)) ∷ short 65536 (get_or a.v.now (a.i + 1) (pos 0)) ∷ short 65536 a.point.x ∷ short 65536 a.point.y ∷ []
 
 known : (c : Start) → All w64 (vs c)
 known c =
@@ -33,7 +33,7 @@ asks : (c : Start) → Needs w64 (vs c) Right × Needs w64 (vs c) Up
 asks c = (zneeds w64 (vs c) (known c) Right tt, zneeds w64 (vs c) (known c) Up tt)
 
 pub overflow_cast-right : goal.overflow_cast-right
-overflow_cast-right c = search (asks c)
+overflow_cast-right c = search (asks (goal.at.overflow_cast-right c).Start)
 
 pub overflow_cast-right-2 : goal.overflow_cast-right-2
 overflow_cast-right-2 c = search (asks (goal.at.overflow_cast-right-2 c).Start)

@@ -32,10 +32,6 @@ module _ (entry : Start) where
   to-fits : SFits w64 entry.args.b.up
   to-fits = search rules
 
-pub overflow_sub-result : goal.overflow_sub-result
-overflow_sub-result c =
-    simp (to_z-of_z, to-fits (goal.at.overflow_sub-result c).Start, c.ranges.s) (difference-fits (lt_z c.args.b.up (pos 0)) (lt_z c.args.s (pos 0)))
-
 pub returns-then-a-b : goal.returns-then-a-b
 returns-then-a-b c =
     let entry = (goal.at.returns-then-a-b c).Start in
@@ -45,11 +41,3 @@ returns-then-a-b c =
     let crossed : one_of (lt_z args.a.up (pos 0)) above ≡ true =
     one-of (lt_z args.a.up (pos 0)) above ∙ simp (to_z-of_z, from-fits entry, to-fits entry) at c.if-a-b.true in
     simp (to_z-of_z, to-fits entry, c.ranges.s, difference-fits above negative) (rw (crossed, one_bit above, one_bit negative))
-
-pub returns-else-a-b : goal.returns-else-a-b
-returns-else-a-b c =
-    let entry = (goal.at.returns-else-a-b c).Start in
-    let args = c.args in
-    let apart : one_of (lt_z args.a.up (pos 0)) (lt_z args.b.up (pos 0)) ≡ false =
-    one-of (lt_z args.a.up (pos 0)) (lt_z args.b.up (pos 0)) ∙ simp (to_z-of_z, from-fits entry, to-fits entry) at c.if-a-b.false in
-    rw apart

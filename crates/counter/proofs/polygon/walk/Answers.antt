@@ -12,7 +12,7 @@ use Rattle.integers.proofs.Bounds.{fit-below}
 use Rattle.counter.specs.Walk.{walked, past}
 use Rattle.counter.specs.Inner.Walks.{SeenFrom, Near, vertex_before}
 use Rattle.counter.specs.declared.polygon.Offset.{Offset}
-use Rattle.counter.specs.declared.polygon.Walked.TheVariants.{Summed}
+use Rattle.std.proofs.Common.{Some}
 use Rattle.counter.proofs.WalkLaws.{edge_at, before_in, before-next, walked-edge, walked_in, walked-carried, seen-near}
 use Rattle.counter.proofs.polygon.walk.Invariants.{SeenBefore}
 use Rattle.counter.proofs.polygon.walk.Goals as goal
@@ -24,8 +24,7 @@ vertex_before-requires c = let six = c.requires.0.three in (omega arith, c.requi
 pub offset_of-last-requires : goal.offset_of-last-requires
 offset_of-last-requires c =
     let l = c.requires.3.from in
-    let m = c.requires.3.to in
-    simp (to_z-of_z, c.ranges.x, c.ranges.y) (
+    let m = c.requires.3.to in (
       c.requires.0,
       rw c.vertex_before.ensures (before_in c.args.v.now c.args.start c.requires.0.three (omega arith)),
       c.requires.1,
@@ -35,9 +34,9 @@ pub loop-i-init : goal.loop-i-init
 loop-i-init c =
     let f = c.ranges in
     let stretch = c.requires.3 in
-    simp (to_z-of_z, f.x, f.y, f.before) (
+    simp (to_z-of_z, f.before) (
       c.requires.2,
-      rw c.vertex_before.ensures at (simp (to_z-of_z, f.x, f.y) at c.offset_of-last.ensures),
+      rw c.vertex_before.ensures at c.offset_of-last.ensures,
       omega arith,
       stretch.from,
       stretch.start_even,
@@ -55,7 +54,7 @@ vertex-there c =
 
 pub offset_of-next-requires : goal.offset_of-next-requires
 offset_of-next-requires c =
-    simp (to_z-of_z, c.ranges.x, c.ranges.y) (c.requires.0, vertex-there c, c.requires.1)
+    (c.requires.0, vertex-there c, c.requires.1)
 
 -- ---- the point, seen from the ends of an edge
 module _ (c : After-offset_of-next) where
@@ -63,22 +62,22 @@ module _ (c : After-offset_of-next) where
   v = c.args.v.now
 
   abbrev x : ℤ
-  x = c.args.x
+  x = c.args.point.x
 
   abbrev y : ℤ
-  y = c.args.y
+  y = c.args.point.y
 
   abbrev i : ℕ
   i = c.loop-i.i
 
-  before_it : walked v x y (i / 2) ≡ Summed (to_z w64 c.loop-i.sum-bits)
-  before_it = simp (to_z-of_z, c.ranges.x, c.ranges.y) at c.loop-i.invariant.0
+  before_it : walked v x y (i / 2) ≡ Some (to_z w64 c.loop-i.sum-bits)
+  before_it = c.loop-i.invariant.0
 
   last-seen : SeenBefore v x y i c.loop-i.last
-  last-seen = simp (to_z-of_z, c.ranges.x, c.ranges.y) at c.loop-i.invariant.1
+  last-seen = c.loop-i.invariant.1
 
   next-seen : SeenFrom x y (get_or v i (pos 0)) (get_or v (i + 1) (pos 0)) c.offset_of-next.result
-  next-seen = simp (to_z-of_z, c.ranges.x, c.ranges.y) at c.offset_of-next.ensures
+  next-seen = c.offset_of-next.ensures
 
   near : (k : ℕ) {offset : Offset} → SeenFrom x y (get_or v k (pos 0)) (get_or v (k + 1) (pos 0)) offset → Near offset
   near k = let on = c.requires.0.on_scale in seen-near c.requires.1.0 c.requires.1.1 (on k) (on (k + 1))
@@ -100,9 +99,9 @@ past-it c =
     ∙ sym (c.past_edge.ensures.is (x c.before) (y c.before) _ _ _ _ (last-seen c.before) (next-seen c.before))
 
 -- carried stays carried to the end of the stretch
-pub returns-in-Carried : goal.returns-in-Carried
-returns-in-Carried c =
-    let after-offset_of-next = (goal.at.returns-in-Carried c).After-offset_of-next in
+pub returns-in_err-sum : goal.returns-in_err-sum
+returns-in_err-sum c =
+    let after-offset_of-next = (goal.at.returns-in_err-sum c).After-offset_of-next in
     let stretch = c.requires.3 in
     let l = c.loop-i-test.true in
     let even = c.loop-i.invariant.4 in
@@ -110,8 +109,8 @@ returns-in-Carried c =
     let k = (i after-offset_of-next + 2) / 2 in
     let m = c.args.end / 2 - k in
     let q : k + m ≡ c.args.end / 2 = omega arith in
-    sym (ap (walked (v after-offset_of-next) (x after-offset_of-next) (y after-offset_of-next)) (sym q) ∙ walked-carried
-    (v after-offset_of-next) (x after-offset_of-next) (y after-offset_of-next) k m (past-it (goal.at.returns-in-Carried c).After-past_edge ∙ c.in-Carried.is))
+    c.from_residual.ensures ∙ sym (ap (walked (v after-offset_of-next) (x after-offset_of-next) (y after-offset_of-next)) (sym q) ∙ walked-carried
+    (v after-offset_of-next) (x after-offset_of-next) (y after-offset_of-next) k m (past-it (goal.at.returns-in_err-sum c).After-past_edge ∙ c.in_err-sum.was))
 
 pub overflow_add-i : goal.overflow_add-i
 overflow_add-i c = let l = vertex-there (goal.at.overflow_add-i c).In-loop-i in omega arith
@@ -128,10 +127,10 @@ loop-i-preserved c =
     let from = c.loop-i.invariant.2 in
     let even = c.loop-i.invariant.4 in
     let end_even = c.requires.3.end_even in
-    let holds = past-it (goal.at.loop-i-preserved c).After-past_edge ∙ c.in-Summed.is in
+    let holds = past-it (goal.at.loop-i-preserved c).After-past_edge ∙ c.in_ok-sum.was in
     let fits = fit-below {w = w64} (omega arith)
     (walked_in (v after-offset_of-next) (x after-offset_of-next) (y after-offset_of-next) ((i after-offset_of-next + 2) / 2) _ holds) in
-    simp (to_z-of_z, f.x, f.y, fits) (
+    simp (to_z-of_z, fits) (
       holds,
       rw (before-next (length (v after-offset_of-next)) (i after-offset_of-next) (i after-offset_of-next + 2) refl) (next-seen after-offset_of-next),
       omega arith,
@@ -145,4 +144,4 @@ returns c =
     let l = c.loop-i-test.false in
     let u = c.loop-i.invariant.3 in
     let q : c.args.end ≡ c.loop-i.i = omega arith in
-    rw q (sym (simp (to_z-of_z, c.ranges.x, c.ranges.y) at c.loop-i.invariant.0))
+    rw q (sym (c.loop-i.invariant.0))

@@ -9,7 +9,7 @@ use mir.Val.{SFits}
 use Rattle.counter.specs.Walk.{walked}
 use Rattle.counter.specs.Inner.Walks.{SeenFrom, vertex_before}
 use Rattle.counter.specs.declared.polygon.Offset.{Offset}
-use Rattle.counter.specs.declared.polygon.Walked.TheVariants.{Summed}
+use Rattle.std.proofs.Common.{Some}
 use Rattle.counter.proofs.polygon.walk.Given as goal
 
 -- the point, seen from the vertex before the one at i
@@ -18,7 +18,7 @@ SeenBefore v x y i offset = SeenFrom x y (get_or v (vertex_before (length v) i) 
 
 abbrev pub invariant-loop-i : goal.invariant-loop-i
 invariant-loop-i l =
-    (walked l.v l.x l.y (l.i / 2) ≡ Summed l.sum) × SeenBefore l.v l.x l.y l.i l.last
+    (walked l.v l.point.x l.point.y (l.i / 2) ≡ Some l.sum) × SeenBefore l.v l.point.x l.point.y l.i l.last
     × (l.start ≤ l.i) × (l.i ≤ l.end) × (l.i % 2 ≡ 0) × SFits w64 l.sum
 
 abbrev pub decreases-loop-i : goal.decreases-loop-i

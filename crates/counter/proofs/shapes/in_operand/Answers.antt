@@ -1,17 +1,7 @@
 -- `in_operand`: a word below 128 names a region below 64.
-use native.Mathlib.Omega.{arith}
 use borrow.Author.Tests.{eq-eqb, ne_eqb}
 use Rattle.counter.specs.Members.{operand_in}
 use Rattle.counter.proofs.shapes.in_operand.Goals as goal
-
-pub number_in-u-requires : goal.number_in-u-requires
-number_in-u-requires c = let h = c.requires.1.region c.args.i c.requires.0 in (c.requires.0, omega arith)
-
-pub bit_in-b-requires : goal.bit_in-b-requires
-bit_in-b-requires c =
-    let h = c.requires.1.region c.args.i c.requires.0 in
-    let e = c.number_in-u.ensures in
-    omega arith
 
 pub returns-then-u-eq1 : goal.returns-then-u-eq1
 unfolding operand_in

@@ -3,15 +3,6 @@ use native.Mathlib.Omega.{arith}
 use Rattle.counter.proofs.ReadLaws.{triple_is}
 use Rattle.counter.proofs.shapes.in_triple.Goals as goal
 
-pub number_in-d-requires : goal.number_in-d-requires
-number_in-d-requires c = (omega arith, omega arith)
-
-pub bounds-event-d : goal.bounds-event-d
-bounds-event-d c =
-    let e = c.number_in-d.ensures in
-    let h = c.requires.2 in
-    omega arith
-
 pub returns : goal.returns
 returns c =
     let args = c.args in

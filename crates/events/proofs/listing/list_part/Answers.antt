@@ -15,7 +15,7 @@ behind-first : (part : List ℕ) (headed : Bool) → headed ≡ true → {e : �
 unfolding list_part
 behind-first part headed h f = rw (f, h, find_first part 10)
 
-all_lines : (part : List ℕ) (headed : Bool) → headed ≡ false → drop 0 part ≡ list_part headed part
+all_lines : (part : List ℕ) (headed : Bool) → headed ≡ false → part ≡ list_part headed part
 unfolding list_part
 all_lines part headed h = rw h
 
@@ -27,5 +27,4 @@ returns-then-headed c =
     c.rest_from.ensures ∙ behind-first c.args.part.now c.args.headed c.if-headed.true c.find.ensures
 
 pub returns-else-headed : goal.returns-else-headed
-returns-else-headed c =
-    c.rest_from-else-headed.ensures ∙ all_lines c.args.part.now c.args.headed c.if-headed.false
+returns-else-headed c = all_lines c.args.part.now c.args.headed c.if-headed.false

@@ -1,37 +1,37 @@
 -- `ragged_line`: each answer by the law of its case.
-use mathlib.Core.Path.{ap}
+use mathlib.Core.Path.{◌∙◌}
 use native.Mathlib.Omega.{arith}
-use borrow.Author.Tests.{not-true, not-false}
-use lib.ListN.{length, length-drop}
-use Rattle.events.proofs.PartingLaws.{start_is}
-use Rattle.events.proofs.AnswerLaws.{line-none, line_open, line-behind, line-nowhere}
+use Rattle.events.proofs.AnswerLaws.{line-none, line_open, line-behind, line-nowhere, line_fits}
 use Rattle.events.proofs.listing.ragged_line.Goals as goal
 
-pub returns-then-not-found : goal.returns-then-not-found
-returns-then-not-found c = line-none _ _ _ _ c.split-s.ensures.0 (not-true _ c.if-not-found.true-raw)
+pub returns-in_err-line : goal.returns-in_err-line
+returns-in_err-line c =
+    let a = c.args in
+    c.from_residual.ensures ∙ line-none a.several a.headed a.n a.input.now c.split-parted.ensures.parted c.in_err-line.was
 
-pub returns-then-not-ended : goal.returns-then-not-ended
-returns-then-not-ended c = line_open _ _ _ _ c.split-s.ensures.0 (not-false _ c.if-not-found.false-raw) (not-true _ c.if-not-ended.true-raw)
+pub returns-in_default : goal.returns-in_default
+returns-in_default c =
+    let a = c.args in
+    line_open a.several a.headed a.n a.input.now c.split-parted.ensures.parted c.in_ok-line.was c.in_default.is
+
+pub returns-in_err-bad : goal.returns-in_err-bad
+returns-in_err-bad c =
+    let a = c.args in
+    c.from_residual-in_err-bad.ensures
+    ∙ line-nowhere a.several a.headed a.n a.input.now c.split-parted.ensures.parted c.in_ok-line.was c.in-Some.is c.rest_from.ensures c.bad_line.ensures
+    c.in_err-bad.was
 
 pub overflow_add-result : goal.overflow_add-result
 overflow_add-result c =
-    let s = c.args.input.now in
+    let a = c.args in
     omega (
       arith,
-      c.split-s.ensures.1,
-      c.split-s.ensures.2,
-      start_is s c.split-s.ensures.0,
-      ap length c.rest_from.ensures,
-      length-drop c.split-s.result.start s,
-      c.bad_line-bad.ensures.1,
+      line_fits a.several a.headed a.n a.input.now c.split-parted.ensures.parted c.in_ok-line.was c.in-Some.is c.rest_from.ensures c.bad_line.ensures
+          c.in_ok-bad.was,
     )
-
-pub returns-then-bad-gt0 : goal.returns-then-bad-gt0
-returns-then-bad-gt0 c =
-    line-behind _ _ _ _ c.split-s.ensures.0 (not-false _ c.if-not-found.false-raw) (not-false _ c.if-not-ended.false-raw)
-    c.rest_from.ensures c.bad_line-bad.ensures.0 c.if-bad-gt0.true
 
 pub returns : goal.returns
 returns c =
-    line-nowhere _ _ _ _ c.split-s.ensures.0 (not-false _ c.if-not-found.false-raw) (not-false _ c.if-not-ended.false-raw)
-    c.rest_from.ensures c.bad_line-bad.ensures.0 c.if-bad-gt0.false
+    let a = c.args in
+    line-behind a.several a.headed a.n a.input.now c.split-parted.ensures.parted c.in_ok-line.was c.in-Some.is c.rest_from.ensures c.bad_line.ensures
+    c.in_ok-bad.was

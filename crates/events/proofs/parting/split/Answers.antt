@@ -1,12 +1,18 @@
 -- `split`: the answer is made of what the search found.
-use native.Mathlib.Omega.{arith}
+use Rattle.std.proofs.Common.{◌≡◌, ◌+◌, arith, eqb, get_or}
+use Rattle.std.proofs.lemmas.Grind.{common_steps}
 use Rattle.events.proofs.PartingLaws.{parted-is}
 use Rattle.events.proofs.parting.split.Goals as goal
 
-pub returns : goal.returns
-returns c =
-    let find-events = c.find_events-o in (
-      parted-is c.args.input.now find-events.result c.is_lf-ended.result find-events.ensures.0 c.is_lf-ended.ensures,
-      find-events.ensures.1,
-      omega (arith, find-events.ensures.2),
-    )
+pub overflow_add-at : goal.overflow_add-at
+overflow_add-at c = omega (arith, c.find_events-at.ensures.within)
+
+pub overflow_add-at-2 : goal.overflow_add-at-2
+overflow_add-at-2 c = omega (arith, c.find_events-at.ensures.within)
+
+pub returns-clause-parted : goal.returns-clause-parted
+returns-clause-parted c =
+    let s = c.args.input.now in
+    let o = c.find_events-at.result in
+    let ended : c.eq-ended.result ≡ eqb (get_or s (o.at + 6) 0) 10 = grind (arith, common_steps) in
+    rw c.then_some.ensures (parted-is s o c.eq-ended.result c.find_events-at.ensures.opening ended)

@@ -1,7 +1,7 @@
--- `put_bytes_from`: the rest from a on is lent.
-use Rattle.text.proofs.WritingLaws.{over-lent}
+-- `put_bytes_from`: what the call writes from a on.
+use Rattle.std.proofs.Common.{rules}
+use Rattle.events.proofs.PrintingLaws.{from-call}
 use Rattle.events.proofs.printing.put_bytes_from.Goals as goal
 
 pub returns : goal.returns
-returns c =
-    (c.put_bytes.ensures.0, over-lent _ _ c.lesser-b.result c.lesser-b.ensures _ _ c.put_bytes.ensures.1)
+returns c = let a = c.args in from-call _ a.a a.s.now a.rest.now _ _ (λ y z k h. search rules) c.put_from.ensures

@@ -1,7 +1,8 @@
--- `put_count_from`: the rest from a on is lent.
-use Rattle.text.proofs.WritingLaws.{over-lent}
+-- `put_count_from`: what the call writes from a on.
+use Rattle.std.proofs.Common.{rules}
+use Rattle.events.specs.Printing.{count_line}
+use Rattle.events.proofs.PrintingLaws.{from-call}
 use Rattle.events.proofs.printing.put_count_from.Goals as goal
 
 pub returns : goal.returns
-returns c =
-    (c.put_count.ensures.0, over-lent _ _ c.lesser-b.result c.lesser-b.ensures _ _ c.put_count.ensures.1)
+returns c = let a = c.args in from-call _ a.a (count_line a.name.now a.count) a.rest.now _ _ (λ y z k h. search rules) c.put_from.ensures

@@ -1,10 +1,8 @@
 -- `value_of` keeps what is read of a number.
 use mir.Syntax.{w32}
 use mir.ValLaws.{to_z-of_z}
-use Rattle.text.proofs.NumbersLaws.{kept_read}
-use Rattle.gates.specs.Kinds.{value_of}
+use Rattle.gatefields.proofs.FieldLaws.{number-or-zero}
 use Rattle.gatefields.proofs.fields.value_of.Goals as goal
 
 pub returns : goal.returns
-unfolding value_of
-returns c = rw (to_z-of_z w32 _ (record { sfits = c.kept.type_inv }), c.kept.ensures, c.read_number.ensures, kept_read)
+returns c = rw (to_z-of_z w32 _ (record { sfits = c.unwrap_or.type_inv }), c.unwrap_or.ensures, c.read_number.ensures) (number-or-zero c.args.x.now)

@@ -1,22 +1,14 @@
--- `counts_good`: below divider t each has a value.
-use borrow.Author.Rules.{rules}
-use native.Mathlib.Omega.{arith}
-use native.Mathlib.Numerals.{add-one}
-use mathlib.Core.Path.{◌≡◌, refl}
-use Prim.Native.Nat.{min}
-use Rattle.plans.specs.Indices.{all}
+-- `counts_good`: each divider has at least one value.
+use Rattle.std.proofs.Common.{rules, tests, leb, min, arith, ◌∙◌, ◌≡◌, refl}
+use Rattle.text.specs.Lines.{fields}
+use Rattle.gates.specs.Quads.{value_count}
+use Rattle.plans.proofs.IndexLaws.{all_same}
+use Rattle.plans.proofs.IteratorLaws.{all_in_range}
 use Rattle.gatefields.proofs.quads.counts_good.Goals as goal
 
-pub loop-t-init : goal.loop-t-init
-unfolding all
-loop-t-init c = (search rules, refl)
-
-pub loop-t-preserved : goal.loop-t-preserved
-unfolding all
-loop-t-preserved c =
-    let loop = c.loop-t in
-    let e : min loop.t 3 ≡ loop.t = omega arith in
-    (search rules, rw (add-one, c.value_count.ensures.0, e, loop.invariant.1))
-
 pub returns : goal.returns
-returns c = let e : c.loop-t.t ≡ c.args.d = omega arith in rw (c.loop-t.invariant.1, e)
+returns c =
+    let fs = fields c.args.line.now in
+    all_in_range (λ t. leb 1 (value_count fs (min t 3))) c.args.d _ _ _ (cc) c.all.ensures.ran (λ x b q k. search (rules, tests))
+    ∙ all_same (λ t. leb 1 (value_count fs (min t 3))) (λ t. leb 1 (value_count fs t)) c.args.d
+    (λ t h. let e : min t 3 ≡ t = omega (arith, h, c.requires) in rw e refl)

@@ -14,6 +14,6 @@ returns c =
       ← c.kind_of.ensures,
       ← c.is_quad.ensures,
       c.if-is_quad.false,
-      c.minus.ensures,
+      c.saturating_sub.ensures,
       c.field_count.ensures,
     )

@@ -7,11 +7,11 @@ use lib.ListN.{get_or-eq_default}
 use Rattle.text.specs.Lines.{fields}
 use Rattle.gatelines.proofs.regions.operand_field.Goals as goal
 
-pub returns-then-minus-j : goal.returns-then-minus-j
-returns-then-minus-j c =
+pub returns-then-saturating_sub-j : goal.returns-then-saturating_sub-j
+returns-then-saturating_sub-j c =
     let args = c.args in
     sym (get_or-eq_default (fields args.line.now) [] {n = 3 + args.j}
-    (omega (arith, c.minus.ensures, c.field_count.ensures)))
+    (omega (arith, c.saturating_sub.ensures, c.field_count.ensures)))
 
 pub returns : goal.returns
 returns c = c.field.ensures

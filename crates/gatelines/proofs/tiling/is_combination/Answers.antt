@@ -1,27 +1,20 @@
--- `is_combination`: below divider t each interval is one of the divider.
-use borrow.Author.Rules.{rules}
-use native.Mathlib.Omega.{arith}
-use native.Mathlib.Numerals.{add-one}
-use mathlib.Core.Path.{◌≡◌, refl}
-use Prim.Native.Nat.{min}
+-- `is_combination`: each interval is one of its divider.
+use Rattle.std.proofs.Common.{◌≡◌, ◌∙◌, refl, ap, leb, min, arith, rules, tests}
+use Rattle.text.specs.Lines.{fields}
 use Rattle.plans.specs.Indices.{all}
-use Rattle.gates.specs.Tiling.{is_combination}
+use Rattle.plans.proofs.IndexLaws.{all_same}
+use Rattle.plans.proofs.IteratorLaws.{all_in_range}
+use Rattle.gates.specs.Quads.{value_count}
+use Rattle.gates.specs.Tiling.{is_combination, interval_in}
 use Rattle.gatelines.proofs.tiling.is_combination.Goals as goal
-
-pub loop-t-init : goal.loop-t-init
-unfolding all
-loop-t-init c = (search rules, refl)
-
-pub loop-t-preserved : goal.loop-t-preserved
-unfolding all
-loop-t-preserved c =
-    let loop = c.loop-t in
-    let e : min loop.t 3 ≡ loop.t = omega arith in
-    (search rules, rw (add-one, c.value_count.ensures.0, e, c.part.ensures, loop.invariant.1))
 
 pub returns : goal.returns
 unfolding is_combination
 returns c =
-    let loop = c.loop-t in
-    let e : loop.t ≡ c.divider_count-d.result = omega arith in
-    rw (loop.invariant.1, e, c.divider_count-d.ensures.0)
+    let fs = fields c.args.line.now in
+    let a = c.args in
+    let n = c.divider_count.result in
+    all_in_range (λ t. leb (interval_in a.c t) (value_count fs (min t 3))) n _ _ _ (cc) c.all.ensures.ran (λ x b q k. search (rules, tests))
+    ∙ all_same (λ t. leb (interval_in a.c t) (value_count fs (min t 3))) (λ t. leb (interval_in a.c t) (value_count fs t)) n
+    (λ t h. let e : min t 3 ≡ t = omega (arith, h, c.divider_count.ensures.1) in rw e refl)
+    ∙ ap (λ m. all (λ t. leb (interval_in a.c t) (value_count fs t)) m) c.divider_count.ensures.0

@@ -1,12 +1,9 @@
 -- `put_line`: the first i words, each with what stands behind it, are written.
-use Prim.Native.Nat.{◌-◌, ◌*◌, ◌≤◌}
-use lib.ListN.{length, drop}
+use Prim.Native.Nat.{◌*◌, ◌≤◌}
+use lib.ListN.{drop}
 use Rattle.planreport.specs.Inner.Compiling.{ended_words}
 use Rattle.planreport.proofs.ProgressLaws.{Progress}
 use Rattle.planreport.proofs.printing.put_line.Given as goal
 
 abbrev pub invariant-loop-i : goal.invariant-loop-i
-invariant-loop-i l = (l.i ≤ length l.words) × (l.at ≤ 22 * l.i) × Progress (ended_words l.words) l.initial.rest l.at l.rest (ended_words (drop l.i l.words))
-
-abbrev pub decreases-loop-i : goal.decreases-loop-i
-decreases-loop-i l = length l.words - l.i
+invariant-loop-i l = (l.at ≤ 22 * l.i) × Progress (ended_words l.words) l.initial.rest l.at l.rest (ended_words (drop l.i l.words))

@@ -1,14 +1,11 @@
--- `put_line_from`: the rest from a on is lent.
-use Rattle.text.proofs.WritingLaws.{over-lent}
+-- `put_line_from`: what the call writes from a on.
+use Rattle.std.proofs.Common.{rules}
+use mathlib.Core.List.{◌++◌, [], ◌∷◌}
+use Rattle.events.proofs.PrintingLaws.{from-call}
+use Rattle.planreport.specs.PlanText.{words_line}
 use Rattle.planreport.proofs.printing.put_line_from.Goals as goal
 
-pub returns : goal.returns
-returns c =
-    record {
-      writes_from = (
-        c.put_line.ensures.writes.0,
-        over-lent _ _ c.lesser-b.result c.lesser-b.ensures _ _
-            c.put_line.ensures.writes.1,
-      );
-      upper_bound = c.put_line.ensures.upper_bound;
-    }
+pub returns-clause-writes_from : goal.returns-clause-writes_from
+returns-clause-writes_from c =
+    let a = c.args in
+    from-call _ a.a (words_line a.words.now ++ (10 ∷ [])) a.rest.now _ _ (λ y z k h. search rules) c.put_from.ensures

@@ -6,7 +6,6 @@ use native.Mathlib.Nat.{mul-le-mul}
 use Rattle.plans.specs.Indices.{all}
 use Rattle.plans.proofs.IndexLaws.{all_more}
 use Rattle.plans.proofs.FormLaws.{dimension-high, dimension-repeated, dimension-new, differs_yes}
-use borrow.Author.Rules.{rules}
 use Rattle.plans.proofs.form.is_dimension.Goals as goal
 
 pub overflow_mul-s : goal.overflow_mul-s
@@ -19,7 +18,7 @@ returns-then-n-d c =
 
 pub loop-u-init : goal.loop-u-init
 unfolding all
-loop-u-init c = (search rules, refl)
+loop-u-init c = refl
 
 pub overflow_mul-s-in-loop-u : goal.overflow_mul-s-in-loop-u
 overflow_mul-s-in-loop-u c =
@@ -37,16 +36,13 @@ returns-then-number_at-d c =
 pub loop-u-preserved : goal.loop-u-preserved
 loop-u-preserved c =
     let loop = c.loop-u in
-    let args = c.args in (
-      search rules,
-      all_more _ loop.u loop.invariant.1
-          (differs_yes args.body.now args.s args.t c.number_at-d.ensures loop.u c.number_at.ensures
-          c.if-number_at-d.false),
-    )
+    let args = c.args in
+    all_more _ loop.u loop.invariant
+    (differs_yes args.body.now args.s args.t c.number_at-d.ensures loop.u c.number_at.ensures c.if-number_at-d.false)
 
 pub returns : goal.returns
 returns c =
     let loop = c.loop-u in
     let args = c.args in
     let e : loop.u ≡ args.t = omega arith in
-    dimension-new args.n args.body.now args.s args.t c.number_at-d.ensures c.if-n-d.false (rw e at loop.invariant.1)
+    dimension-new args.n args.body.now args.s args.t c.number_at-d.ensures c.if-n-d.false (rw e at loop.invariant)

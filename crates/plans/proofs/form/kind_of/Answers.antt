@@ -3,38 +3,38 @@ use Rattle.plans.specs.Kinds.{kind_of}
 use Rattle.integers.proofs.Rules.{tests}
 use Rattle.plans.proofs.form.kind_of.Goals as goal
 
-pub returns-then-k-eq1 : goal.returns-then-k-eq1
+pub returns-in-1 : goal.returns-in-1
 unfolding kind_of
-returns-then-k-eq1 c = search tests
+returns-in-1 c = search tests
 
-pub returns-then-k-eq2 : goal.returns-then-k-eq2
+pub returns-in-2 : goal.returns-in-2
 unfolding kind_of
-returns-then-k-eq2 c = search tests
+returns-in-2 c = search tests
 
-pub returns-then-k-eq3 : goal.returns-then-k-eq3
+pub returns-in-3 : goal.returns-in-3
 unfolding kind_of
-returns-then-k-eq3 c = search tests
+returns-in-3 c = search tests
 
-pub returns-then-k-eq4 : goal.returns-then-k-eq4
+pub returns-in-4 : goal.returns-in-4
 unfolding kind_of
-returns-then-k-eq4 c = search tests
+returns-in-4 c = search tests
 
-pub returns-then-k-eq5 : goal.returns-then-k-eq5
+pub returns-in-5 : goal.returns-in-5
 unfolding kind_of
-returns-then-k-eq5 c = search tests
+returns-in-5 c = search tests
 
-pub returns-then-k-eq6 : goal.returns-then-k-eq6
+pub returns-in-6 : goal.returns-in-6
 unfolding kind_of
-returns-then-k-eq6 c = search tests
+returns-in-6 c = search tests
 
-pub returns-then-k-eq7 : goal.returns-then-k-eq7
+pub returns-in-7 : goal.returns-in-7
 unfolding kind_of
-returns-then-k-eq7 c = search tests
+returns-in-7 c = search tests
 
-pub returns-then-k-eq8 : goal.returns-then-k-eq8
+pub returns-in-8 : goal.returns-in-8
 unfolding kind_of
-returns-then-k-eq8 c = search tests
+returns-in-8 c = search tests
 
-pub returns : goal.returns
+pub returns-in_default : goal.returns-in_default
 unfolding kind_of
-returns c = search tests
+returns-in_default c = search tests

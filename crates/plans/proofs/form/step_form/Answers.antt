@@ -20,14 +20,14 @@ few : (c : After-body_run-run) → c.body_run-run.result ≤ 4096
 few c =
     let a = c.args in
     let e = c.body_run-run.ensures in
-    let r = run-most c.kind_at.result a.n a.k a.set c.part_at.result.now in
+    let r = run-most c.kind_at.result a.n a.regions.count a.regions.set c.part_at.result.now in
     let l = short c.before in
     omega arith
 
 pub returns-then-head-lt4 : goal.returns-then-head-lt4
 returns-then-head-lt4 c =
     let args = c.args in
-    bad-head args.plan.now args.n args.k args.set args.at c.head_run-head.ensures c.if-head-lt4.true
+    bad-head args.plan.now args.n args.regions.count args.regions.set args.at c.head_run-head.ensures c.if-head-lt4.true
 
 pub body_run-run-requires : goal.body_run-run-requires
 body_run-run-requires c = short c
@@ -41,7 +41,7 @@ overflow_add-result-then-run-m-2 c =
 pub returns-then-run-m : goal.returns-then-run-m
 returns-then-run-m c =
     let args = c.args in
-    bad-body args.plan.now args.n args.k args.set args.at c.head_run-head.ensures c.if-head-lt4.false
+    bad-body args.plan.now args.n args.regions.count args.regions.set args.at c.head_run-head.ensures c.if-head-lt4.false
     c.number_at-m.ensures c.kind_at.ensures c.part_at.ensures c.body_run-run.ensures
     c.if-run-m.true
 
@@ -55,6 +55,6 @@ overflow_add-result-3 c =
 pub returns : goal.returns
 returns c =
     let args = c.args in
-    good-step args.plan.now args.n args.k args.set args.at c.head_run-head.ensures c.if-head-lt4.false
+    good-step args.plan.now args.n args.regions.count args.regions.set args.at c.head_run-head.ensures c.if-head-lt4.false
     c.number_at-m.ensures c.kind_at.ensures c.part_at.ensures
     c.body_run-run.ensures c.if-run-m.false c.number_at.ensures

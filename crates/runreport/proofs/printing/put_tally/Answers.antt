@@ -16,5 +16,5 @@ overflow_add-result c =
 
 pub returns : goal.returns
 returns c =
-    tally-written c.args.k c.args.tally c.args.out.now c.put_regions-a.ensures.0 c.put_taken.ensures
+    tally-written c.args.k c.args.tally.now c.args.out.now c.put_regions-a.ensures.0 c.put_taken.ensures
     c.put_spoilt.ensures

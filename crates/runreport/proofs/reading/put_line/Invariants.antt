@@ -1,14 +1,9 @@
 -- `put_line`: the words of the first k fields are written over the beginning.
 use mathlib.Core.Path.{◌≡◌}
-use Prim.Native.Nat.{◌-◌, ◌≤◌}
-use lib.ListN.{length, take}
+use lib.ListN.{take}
 use Rattle.text.specs.Output.{over}
-use Rattle.text.specs.Lines.{fields}
 use Rattle.runreport.specs.PlanReading.{line_words}
 use Rattle.runreport.proofs.reading.put_line.Given as goal
 
 abbrev pub invariant-loop-k : goal.invariant-loop-k
-invariant-loop-k l = (l.n ≡ length (fields l.line)) × (l.k ≤ l.n) × (l.rest ≡ over (take l.k (line_words l.line)) l.initial.rest)
-
-abbrev pub decreases-loop-k : goal.decreases-loop-k
-decreases-loop-k l = l.n - l.k
+invariant-loop-k l = l.rest ≡ over (take l.k (line_words l.line)) l.initial.rest

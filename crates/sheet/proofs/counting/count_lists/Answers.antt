@@ -37,19 +37,19 @@ overflow_add-begin c =
 
 pub slice_bounds-count_list-end : goal.slice_bounds-count_list-end
 slice_bounds-count_list-end c =
-    sym (length-take-le c.split-parted.result.table c.rest_from-part.result.now c.split-parted.ensures.1)
+    sym (length-take-le c.split-end.result.table c.rest_from-part.result.now c.split-end.ensures.within)
 
 pub count_list-tally-requires : goal.count_list-tally-requires
 count_list-tally-requires c =
     let a = c.args in
     let inv = c.loop-at.invariant in
-    let part = part-is-table c.rest_from-part.result.now c.split-parted.ensures.0 in
+    let part = part-is-table c.rest_from-part.result.now c.split-end.ensures.parted in
     let behind = c.rest_from-part.ensures ∙ ap (λ (k : ℕ). drop (k + 1) a.input.now) c.find-begin.ensures in
     let is = part.0 ∙ ap table_part behind in (
       omega (
         arith,
-        length-take-le c.split-parted.result.table c.rest_from-part.result.now c.split-parted.ensures.1,
-        c.split-parted.ensures.1,
+        length-take-le c.split-end.result.table c.rest_from-part.result.now c.split-end.ensures.within,
+        c.split-end.ensures.within,
         ap length c.rest_from-part.ensures,
         length-drop (c.find-begin.result + 1) a.input.now,
         c.requires.0,
@@ -85,12 +85,12 @@ overflow_add-at-in-loop-at c =
     let inv = c.loop-at.invariant.0 in
     let near = events-near inv.0 a.plan.now a.input.now a.columns.now c.requires.0
     c.loop-at.at c.loop-at.lists inv.1 c.loop-at-test.true in
-    let h : c.find-begin.result + 1 + c.split-parted.result.table < 200000 =
+    let h : c.find-begin.result + 1 + c.split-end.result.table < 200000 =
     omega (
       arith,
       near,
       c.find-begin.ensures,
-      c.split-parted.ensures.1,
+      c.split-end.ensures.within,
       ap length c.rest_from-part.ensures,
       length-drop (c.find-begin.result + 1) a.input.now,
       c.requires.0,
@@ -106,7 +106,7 @@ pub loop-at-preserved : goal.loop-at-preserved
 loop-at-preserved c =
     let a = c.args in
     let inv = c.loop-at.invariant.0 in
-    let part = part-is-table c.rest_from-part.result.now c.split-parted.ensures.0 in
+    let part = part-is-table c.rest_from-part.result.now c.split-end.ensures.parted in
     let behind = c.rest_from-part.ensures ∙ ap (λ (k : ℕ). drop (k + 1) a.input.now) c.find-begin.ensures in
     let is = part.0 ∙ ap table_part behind in
     let tally-is = c.count_list-tally.ensures.0 ∙ ap (λ (t : List ℕ). (count_of a.plan.now (values t)).tally) is in

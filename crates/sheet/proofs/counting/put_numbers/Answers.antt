@@ -1,10 +1,9 @@
 -- `put_numbers`: the first r counts are written over the beginning.
-use mathlib.Core.Path.{refl, ◌∙◌, ap}
+use mathlib.Core.Path.{◌≡◌, refl}
 use Prim.Native.Nat.{◌<◌}
 use native.Mathlib.Omega.{arith}
 use borrow.Author.Rules.{rules}
-use lib.ListN.{length, get_or}
-use Rattle.text.proofs.OutputLaws.{over-length}
+use lib.ListN.{get_or}
 use Rattle.sheet.proofs.ColumnLaws.{counts-none, counts-more, numbers-written}
 use Rattle.sheet.proofs.counting.put_numbers.Goals as goal
 
@@ -18,7 +17,7 @@ overflow_cast-tally c =
 
 pub loop-r-preserved : goal.loop-r-preserved
 loop-r-preserved c =
-    counts-more c.args.tally c.args.rest.now c.requires.long c.loop-r.r (omega arith) c.loop-r.invariant refl c.put_at.ensures
+    counts-more c.args.tally c.args.rest.now c.requires.long c.loop-r.r (omega arith) c.loop-r.invariant refl c.put.ensures
 
 pub overflow_cast-tally-2 : goal.overflow_cast-tally-2
 overflow_cast-tally-2 c =
@@ -37,8 +36,6 @@ overflow_cast-tally-4 c =
 
 pub returns : goal.returns
 returns c =
-    numbers-written c.args.tally c.args.rest.now c.requires.long c.loop-r.r c.loop-r-test.false c.loop-r.invariant
-    refl c.put_at-2.ensures refl c.put_at-3.ensures refl c.put_at-4.ensures
-
-pub shape_of-rest : goal.shape_of-rest
-shape_of-rest c = ap length (returns c).1 ∙ over-length _ _
+    let z : c.loop-r.r ≡ 64 = omega arith in
+    numbers-written c.args.tally c.args.rest.now c.requires.long (rw z at c.loop-r.invariant)
+    refl c.put-2.ensures refl c.put-3.ensures refl c.put-4.ensures

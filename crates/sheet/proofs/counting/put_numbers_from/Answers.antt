@@ -1,7 +1,8 @@
--- `put_numbers_from`: the rest from a on is lent.
-use Rattle.text.proofs.WritingLaws.{over-lent}
+-- `put_numbers_from`: what the call writes from a on.
+use Rattle.std.proofs.Common.{rules}
+use Rattle.events.proofs.PrintingLaws.{from-call}
+use Rattle.sheet.specs.Inner.Columns.{numbers_of}
 use Rattle.sheet.proofs.counting.put_numbers_from.Goals as goal
 
 pub returns : goal.returns
-returns c =
-    (c.put_numbers.ensures.0, over-lent _ _ c.lesser-b.result c.lesser-b.ensures _ _ c.put_numbers.ensures.1)
+returns c = let a = c.args in from-call _ a.a (numbers_of a.tally) a.columns.now _ _ (λ y z k h. search rules) c.put_from.ensures

@@ -10,5 +10,5 @@ returns c =
     let a = c.args in record {
       writes_from = summaries-written a.at _ _ _ a.out.now c.put_summary-a.ensures.writes_from
           c.put_summary.ensures.writes_from c.put_summary-2.ensures.writes_from;
-      upper_bound = omega (arith, c.requires.1, c.put_summary-a.ensures.upper_bound, c.put_summary.ensures.upper_bound, c.put_summary-2.ensures.upper_bound);
+      within = omega (arith, c.args.columns.now.few, c.put_summary-a.ensures.within, c.put_summary.ensures.within, c.put_summary-2.ensures.within);
     }

@@ -7,7 +7,8 @@ use Rattle.sheet.proofs.printing.put_summary.Goals as goal
 pub returns : goal.returns
 returns c =
     let a = c.args in record {
-      writes_from = summary_written a.at a.name.now (column_of a.columns.now a.k a.r) a.out.now a.sum c.put_listed-a.ensures.writes_from
+      writes_from = summary_written a.at a.name.now (column_of a.columns.now.numbers.now a.columns.now.lists a.r) a.out.now a.sum
+          c.put_listed-a.ensures.writes_from
           c.put_bytes_from.ensures;
-      upper_bound = omega (arith, c.put_listed-a.ensures.upper_bound, c.put_bytes_from.ensures.0);
+      within = omega (arith, c.put_listed-a.ensures.within, c.put_bytes_from.ensures.0);
     }

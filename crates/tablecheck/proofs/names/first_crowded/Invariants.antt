@@ -9,8 +9,6 @@ use Rattle.tablecheck.proofs.names.first_crowded.Given as goal
 
 abbrev pub invariant-loop-i : goal.invariant-loop-i
 invariant-loop-i l =
-    (l.total ≤ 64) × (l.i ≤ l.n) × (l.total ≡ length (regions_at l.text l.starts.at l.i))
-    × (first_bad (uncrowded (gates_at l.text l.starts.at l.n)) 0 l.n ≡ first_bad (uncrowded (gates_at l.text l.starts.at l.n)) l.i (l.n - l.i))
-
-abbrev pub decreases-loop-i : goal.decreases-loop-i
-decreases-loop-i l = l.n - l.i
+    (l.total ≤ 64) × (l.total ≡ length (regions_at l.table.text.now l.table.starts l.i))
+    × (first_bad (uncrowded (gates_at l.table.text.now l.table.starts l.table.gates)) 0 l.table.gates
+    ≡ first_bad (uncrowded (gates_at l.table.text.now l.table.starts l.table.gates)) l.i (l.table.gates - l.i))

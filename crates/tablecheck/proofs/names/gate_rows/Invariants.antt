@@ -2,13 +2,10 @@
 use Rattle.tablecheck.proofs.RowLaws.{Row}
 use Rattle.tablecheck.specs.Inner.Names.{refers_by}
 use lib.ListN.{length, get_or}
-use Prim.Native.Nat.{ℕ, ◌-◌, ◌<◌, ◌≤◌}
+use Prim.Native.Nat.{ℕ, ◌<◌}
 use mathlib.Core.Path.{◌≡◌}
 use Rattle.tablecheck.proofs.names.gate_rows.Given as goal
 
 abbrev pub invariant-loop-i : goal.invariant-loop-i
 invariant-loop-i l =
-    (l.i ≤ 64) × (length l.rows.bits ≡ 64) × ((a : ℕ) → a < l.i → Row (refers_by l.text l.starts.at a) l.n (get_or l.rows.bits a 0))
-
-abbrev pub decreases-loop-i : goal.decreases-loop-i
-decreases-loop-i l = 64 - l.i
+    (length l.rows.bits ≡ 64) × ((a : ℕ) → a < l.i → Row (refers_by l.table.text.now l.table.starts a) l.table.gates (get_or l.rows.bits a 0))

@@ -1,96 +1,90 @@
 -- `names_refusal` meets its contract: the first refusal that is found is the verdict's.
-use mathlib.Core.List.{List}
-use mathlib.Core.Path.{◌≡◌}
-use Prim.Native.Nat.{ℕ, ◌≤◌, min}
-use lib.ListN.{length}
-use Rattle.tables.specs.Head.{gate_lines}
-use Rattle.resolve.specs.Inner.Reading.{regions_at}
-use Rattle.resolve.proofs.StartLaws.{Indexed, places, line-count}
+use Rattle.std.proofs.Common.{◌≡◌, ◌≤◌, ℕ, ◌-◌, List, length, min, refl, sym, ap, ◌∙◌}
+use Rattle.plans.specs.Refusals.{Verdict}
+use Rattle.tables.specs.Head.{gate_lines, gates}
+use Rattle.resolve.specs.Inner.Reading.{starts_of, gate_count}
+use Rattle.resolve.proofs.StartLaws.{Indexed, places}
 use Rattle.tablecheck.specs.Inner.Names.{GoodLines}
+use Rattle.tablecheck.specs.Inner.TextVerdict.{names_verdict}
+use Rattle.tablecheck.proofs.FoundLaws.{below_some, below_none}
 use Rattle.tablecheck.proofs.NamesLaws.{count-read, few, most, crowded_refused, repeated-refused, dead_refused, circled_refused, none-refused}
 use Rattle.tablecheck.proofs.names.names_refusal.Goals as goal
-use Rattle.tablecheck.proofs.names.names_refusal.Goals.{After-first_crowded-crowded}
+use Rattle.tablecheck.proofs.names.names_refusal.Goals.{After-up_to-table}
 
--- ---- what is known once the gates are looked at for crowding
-
-abbrev Crowding : Type 0
-Crowding = After-first_crowded-crowded
-
-module _ (b : Crowding) where
+-- what is known of the table
+module _ (b : After-up_to-table) where
   abbrev text : List ℕ
-  text = b.args.text.now
+  text = b.up_to-table.result.text.now
 
   abbrev starts : List ℕ
-  starts = b.starts_of-starts.result.at
+  starts = b.up_to-table.result.starts
 
   abbrev n : ℕ
-  n = b.lesser-n.result
+  n = b.up_to-table.result.gates
+
+  same-text : text ≡ b.args.text.now
+  same-text = b.up_to-table.ensures.text ∙ b.new.ensures.text
 
   good : GoodLines text
-  good = b.requires
+  good = rw same-text b.requires
 
   indexed : Indexed text starts
-  indexed = places text b.starts_of-starts.ensures
+  indexed = places text (b.up_to-table.ensures.starts ∙ b.new.ensures.starts ∙ ap starts_of (sym same-text))
 
   read : n ≡ min (length (gate_lines text)) 65
-  read = count-read text (line-count text b.starts_of-starts.ensures) b.minus.ensures b.lesser-n.ensures
+  read =
+      count-read text (b.up_to-table.ensures.gates ∙ ap (λ (k : ℕ). min k 65) (b.new.ensures.gates ∙ ap (λ (s : List ℕ). gate_count s) (sym same-text)))
 
-  module _ (h : n ≤ b.first_crowded-crowded.result) where
-    at-most_64_regions : length (regions_at text starts n) ≤ 64
-    at-most_64_regions = few text starts indexed good read b.first_crowded-crowded.ensures h
+  said : {r : Verdict} (v : Verdict) → r ≡ names_verdict (gates text) v → r ≡ names_verdict (gates b.args.text.now) v
+  said v q = q ∙ ap (λ (s : List ℕ). names_verdict (gates s) v) same-text
 
-    at-most_64_gates : n ≤ 64
-    at-most_64_gates = most text starts indexed good read b.first_crowded-crowded.ensures h
+pub returns-in-Some : goal.returns-in-Some
+returns-in-Some c =
+    let b = (goal.at.returns-in-Some c).After-up_to-table in
+    let found = below_some (n b) (sym c.in-Some.is ∙ c.first_crowded.ensures) in
+    λ v. said b v (crowded_refused (text b) (starts b) (indexed b) (good b) (read b) found.0 found.1 v)
 
-pub returns-then-crowded-n : goal.returns-then-crowded-n
-returns-then-crowded-n c =
-    let b = (goal.at.returns-then-crowded-n c).After-first_crowded-crowded in
-    λ v. crowded_refused (text b) (starts b) (indexed b) (good b) (read b) c.first_crowded-crowded.ensures c.if-crowded-n.true v
+pub returns-in-Some-first_repeated : goal.returns-in-Some-first_repeated
+returns-in-Some-first_repeated c =
+    let b = (goal.at.returns-in-Some-first_repeated c).After-up_to-table in
+    let past-0 = below_none (n b) (sym c.in_default.is ∙ c.first_crowded.ensures) in
+    let found = below_some (n b) (sym c.in-Some-first_repeated.is ∙ c.first_repeated.ensures) in
+    λ v. said b v (repeated-refused (text b) (starts b) (indexed b) (good b) (read b) refl past-0 found.0 found.1 v)
 
-pub returns-then-repeated-n : goal.returns-then-repeated-n
-returns-then-repeated-n c =
-    let b = (goal.at.returns-then-repeated-n c).After-first_crowded-crowded in
-    let if1 = c.if-crowded-n in
-    λ v. repeated-refused (text b) (starts b) (indexed b) (good b) (read b) c.first_crowded-crowded.ensures if1.false
-    c.first_repeated-repeated.ensures c.if-repeated-n.true v
+pub first_dead-requires : goal.first_dead-requires
+first_dead-requires c =
+    let b = (goal.at.first_dead-requires c).After-up_to-table in
+    let past-0 = below_none (n b) (sym c.in_default.is ∙ c.first_crowded.ensures) in
+    few (text b) (starts b) (indexed b) (good b) (read b) refl past-0
 
-pub first_dead-dead-requires : goal.first_dead-dead-requires
-first_dead-dead-requires c =
-    let b = (goal.at.first_dead-dead-requires c).After-first_crowded-crowded in
-    at-most_64_regions b c.if-crowded-n.false
+pub returns-in-Some-first_dead : goal.returns-in-Some-first_dead
+returns-in-Some-first_dead c =
+    let b = (goal.at.returns-in-Some-first_dead c).After-up_to-table in
+    let past-0 = below_none (n b) (sym c.in_default.is ∙ c.first_crowded.ensures) in
+    let past-1 = below_none (n b) (sym c.in_default-first_repeated.is ∙ c.first_repeated.ensures) in
+    let found = below_some (n b) (sym c.in-Some-first_dead.is ∙ c.first_dead.ensures) in
+    λ v. said b v (dead_refused (text b) (starts b) (indexed b) (good b) (read b) refl past-0 refl past-1 found.0 found.1 v)
 
-pub returns-then-dead-n : goal.returns-then-dead-n
-returns-then-dead-n c =
-    let b = (goal.at.returns-then-dead-n c).After-first_crowded-crowded in
-    let if2 = c.if-repeated-n in
-    let first-repeated = c.first_repeated-repeated in
-    let if1 = c.if-crowded-n in
-    λ v. dead_refused (text b) (starts b) (indexed b) (good b) (read b) c.first_crowded-crowded.ensures if1.false
-    first-repeated.ensures if2.false c.first_dead-dead.ensures c.if-dead-n.true v
+pub first_circled-requires : goal.first_circled-requires
+first_circled-requires c =
+    let b = (goal.at.first_circled-requires c).After-up_to-table in
+    let past-0 = below_none (n b) (sym c.in_default.is ∙ c.first_crowded.ensures) in
+    most (text b) (starts b) (indexed b) (good b) (read b) refl past-0
 
-pub first_circled-circled-requires : goal.first_circled-circled-requires
-first_circled-circled-requires c =
-    let b = (goal.at.first_circled-circled-requires c).After-first_crowded-crowded in
-    at-most_64_gates b c.if-crowded-n.false
-
-pub returns-then-circled-n : goal.returns-then-circled-n
-returns-then-circled-n c =
-    let b = (goal.at.returns-then-circled-n c).After-first_crowded-crowded in
-    let if3 = c.if-dead-n in
-    let first-dead = c.first_dead-dead in
-    let if2 = c.if-repeated-n in
-    let first-repeated = c.first_repeated-repeated in
-    let if1 = c.if-crowded-n in
-    λ v. circled_refused (text b) (starts b) (indexed b) (good b) (read b) c.first_crowded-crowded.ensures if1.false
-    first-repeated.ensures if2.false first-dead.ensures if3.false c.first_circled-circled.ensures c.if-circled-n.true v
+pub returns-in-Some-first_circled : goal.returns-in-Some-first_circled
+returns-in-Some-first_circled c =
+    let b = (goal.at.returns-in-Some-first_circled c).After-up_to-table in
+    let past-0 = below_none (n b) (sym c.in_default.is ∙ c.first_crowded.ensures) in
+    let past-1 = below_none (n b) (sym c.in_default-first_repeated.is ∙ c.first_repeated.ensures) in
+    let past-2 = below_none (n b) (sym c.in_default-first_dead.is ∙ c.first_dead.ensures) in
+    let found = below_some (n b) (sym c.in-Some-first_circled.is ∙ c.first_circled.ensures) in
+    λ v. said b v (circled_refused (text b) (starts b) (indexed b) (good b) (read b) refl past-0 refl past-1 refl past-2 found.0 found.1 v)
 
 pub returns : goal.returns
 returns c =
-    let b = (goal.at.returns c).After-first_crowded-crowded in
-    let if3 = c.if-dead-n in
-    let first-dead = c.first_dead-dead in
-    let if2 = c.if-repeated-n in
-    let first-repeated = c.first_repeated-repeated in
-    let if1 = c.if-crowded-n in
-    λ v. none-refused (text b) (starts b) (indexed b) (good b) (read b) c.first_crowded-crowded.ensures if1.false
-    first-repeated.ensures if2.false first-dead.ensures if3.false c.first_circled-circled.ensures c.if-circled-n.false v
+    let b = (goal.at.returns c).After-up_to-table in
+    let past-0 = below_none (n b) (sym c.in_default.is ∙ c.first_crowded.ensures) in
+    let past-1 = below_none (n b) (sym c.in_default-first_repeated.is ∙ c.first_repeated.ensures) in
+    let past-2 = below_none (n b) (sym c.in_default-first_dead.is ∙ c.first_dead.ensures) in
+    let past-3 = below_none (n b) (sym c.in_default-first_circled.is ∙ c.first_circled.ensures) in
+    λ v. said b v (none-refused (text b) (starts b) (indexed b) (good b) (read b) refl past-0 refl past-1 refl past-2 refl past-3 v)

@@ -43,7 +43,7 @@ loop-at-preserved c =
       omega arith,
       omega arith,
       rw c.find-at.ensures (rest-next s _ n loop.at e),
-      rw (c.put_place.ensures, loop.invariant.3)
+      rw (c.put.ensures, loop.invariant.3)
           (ap (set (over (take n s) a.starts.now) n) (sym (rest-first s _ n loop.at e 0)) ∙ over-take s a.starts.now n 0 i),
     )
 

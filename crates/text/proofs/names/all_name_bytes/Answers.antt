@@ -1,22 +1,12 @@
--- `all_name_bytes`: every byte passes where every byte from i on does.
-use mathlib.Core.Path.{sym, ◌∙◌}
-use borrow.Author.Rules.{rules}
-use borrow.Author.Tests.{not-true, not-false}
+-- `all_name_bytes`: what `all` answers.
+use Rattle.std.proofs.Common.{rules, tests, sym, ◌∙◌}
+use Rattle.std.proofs.lemmas.Iterator.{YieldsList-from_slice}
+use Rattle.std.proofs.lemmas.Iterator.Search.{all_from_yields_List}
 use Rattle.text.specs.Names.{is_name_byte}
-use Rattle.text.proofs.BytesLaws.{every-fails, every_goes_on, every_end}
+use Rattle.text.proofs.LibraryLaws.{every_is}
 use Rattle.text.proofs.names.all_name_bytes.Goals as goal
 
-pub returns-then-not-name_byte : goal.returns-then-not-name_byte
-returns-then-not-name_byte c =
-    let loop = c.loop-i in
-    sym (loop.invariant.1 ∙ every-fails _ loop.i 0 is_name_byte c.loop-i-test.true (sym c.name_byte.ensures ∙ not-true _ c.if-not-name_byte.true-raw))
-
-pub loop-i-preserved : goal.loop-i-preserved
-loop-i-preserved c =
-    let loop = c.loop-i in (
-      search rules,
-      loop.invariant.1 ∙ every_goes_on _ loop.i 0 is_name_byte c.loop-i-test.true (sym c.name_byte.ensures ∙ not-false _ c.if-not-name_byte.false-raw),
-    )
-
 pub returns : goal.returns
-returns c = sym (c.loop-i.invariant.1 ∙ every_end _ c.loop-i.i is_name_byte c.loop-i-test.false)
+returns c =
+    let s = c.args.s.now in
+    all_from_yields_List is_name_byte _ _ _ c.all.ensures.ran (YieldsList-from_slice s cc) (λ x b q k. search (rules, tests)) ∙ sym (every_is is_name_byte s)

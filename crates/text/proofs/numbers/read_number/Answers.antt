@@ -1,6 +1,5 @@
--- `read_number_lem`: the cut digits with their sign are the clamped value.
-use mathlib.Core.Path.{sym, ◌∙◌}
-use native.Mathlib.Omega.{arith}
+-- `read_number`: the cut digits with their sign are the clamped value.
+use Rattle.std.proofs.Common.{sym, ◌∙◌, arith}
 use mir.Syntax.{w32}
 use mir.ValLaws.{to_z-of_z}
 use Rattle.text.specs.Numbers.{number_value}
@@ -22,5 +21,5 @@ returns-then-is_number c =
       clamp-signed,
     )
 
-pub returns : goal.returns
-returns c = sym (read-bad _ (sym c.is_number.ensures ∙ c.if-is_number.false))
+pub returns-else-is_number : goal.returns-else-is_number
+returns-else-is_number c = sym (read-bad _ (sym c.is_number.ensures ∙ c.if-is_number.false))

@@ -13,7 +13,7 @@ unfolding over
 returns-then-x-lt10 t c =
     let a = c.args in
     rw (decimal-low a.x c.if-x-lt10.true)
-    (refl, c.put_byte.ensures ∙ over-more-at [] a.rest.now 0 _ refl)
+    (refl, c.put.ensures ∙ over-more-at [] a.rest.now 0 _ refl)
 
 pub overflow_add-result : goal.overflow_add-result
 overflow_add-result t c = omega (arith, decimal-length (c.args.x / 10))
@@ -24,5 +24,5 @@ returns t c =
     let a = c.args in
     rw (decimal-high a.x (omega arith) (omega arith)) (
       simp length-append (omega arith),
-      rw (c.put_byte-2.ensures, put-number.ensures.1) (over-more-at _ a.rest.now put-number.result _ (sym put-number.ensures.0)),
+      rw (c.put-2.ensures, put-number.ensures.1) (over-more-at _ a.rest.now put-number.result _ (sym put-number.ensures.0)),
     )

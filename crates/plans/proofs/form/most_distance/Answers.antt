@@ -1,9 +1,0 @@
--- `most_distance` goes by the kind's number as `most_distance` does.
-use borrow.Author.Tests.{eq-eqb, ne_eqb}
-use Rattle.plans.proofs.form.most_distance.Goals as goal
-
-pub returns-then-kind_number-eq7 : goal.returns-then-kind_number-eq7
-returns-then-kind_number-eq7 c = rw (← c.kind_number.ensures, eq-eqb _ _ c.if-kind_number-eq7.true)
-
-pub returns-else-kind_number-eq7 : goal.returns-else-kind_number-eq7
-returns-else-kind_number-eq7 c = rw (← c.kind_number.ensures, ne_eqb _ _ c.if-kind_number-eq7.false)

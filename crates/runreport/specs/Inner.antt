@@ -1,2 +1,0 @@
--- Definitions that only inner contracts and proofs cite.
-pub mod Answers

@@ -1,7 +1,0 @@
--- `put_byte`: behind the end nothing is put.
-use mathlib.Core.Path.{sym}
-use lib.Seq.{set_out}
-use Rattle.text.proofs.output.put_byte.Goals as goal
-
-pub returns-else-i-bytes : goal.returns-else-i-bytes
-returns-else-i-bytes c = sym (set_out _ _ _ c.if-i-bytes.false)
