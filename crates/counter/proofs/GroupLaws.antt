@@ -28,7 +28,7 @@ use Rattle.counter.specs.Members.{value_in, triple_in, box_in, operand_in, paren
 use Rattle.counter.specs.Judging.{value_good, taken, members, unclaimed}
 use Rattle.counter.specs.Counting.{event_at, taken_at, member_at, unclaimed_at, tally_of}
 use Rattle.counter.specs.declared.Tally.{Tally}
-use Rattle.counter.specs.Inner.Steps.{parent_region, in_parent, SomeRegion, step_at, Taken, Operands, Sound, AllSound}
+use Rattle.counter.specs.Inner.Steps.{parent_region, in_parent, SomeRegion, head_at, step_at, Taken, Operands, Sound, AllSound}
 use Rattle.counter.specs.Inner.Groups.{First, SetOf, Those, Candidates, Agree, Matched, MemberSets, outside, in_set, in_none, first_of, from_to, triple_at, triples_at, operand_at, all_at, any_at, parent_at, drawn_at, shape_at, member_by, member_in}
 use Rattle.counter.specs.declared.steps.Shape.TheVariants.{Box}
 use Rattle.counter.specs.declared.steps.Step.{Step}
@@ -315,7 +315,7 @@ module _ {p : List ℤ} {n at : ℕ} (s : Sound p n at) (group : List ℤ) {take
   unfolding shape_at member_by step_in step_at
   step_those {step} e1 {body} e2 t = record {
     each = λ e h. t.each e h
-        ∙ rw (in_parent_lem e h, e1, e2, (position_tells (kind_at p at) (event_at n group e) (bits e) (body_at p at)).0)
+        ∙ rw (in_parent_lem e h, e1, e2, (position_tells (kind_at p at) (head_at p at) (event_at n group e) (bits e) (body_at p at)).0)
         (and_assoc (has_bit taken e) (parent_in (bits e) (word p (at + 2))) _);
   }
 

@@ -26,7 +26,8 @@ use Rattle.counter.specs.Inner.Ranges.{OnScale, Vertices, Fields}
 use Rattle.counter.specs.Members.{value_in, box_in, polygon_in, ellipse_in, decimal_ellipse_in, ellipsoid_in, operand_in, shape_in}
 use Rattle.counter.specs.Positions.{not_outside, is_on_outline}
 use Rattle.counter.specs.Outlines.{polygon_on, ellipse_on, decimal_ellipse_on, ellipsoid_on, shape_on}
-use Rattle.counter.specs.Inner.Steps.{plane_of, oval_of, space_of, solid_of, step_of, position_in, BoxBody, PlaneWithin, SpaceWithin, SolidWithin, Operands, StepShaped}
+use Rattle.counter.specs.Inner.Steps.{plane_of, oval_of, space_of, solid_of, step_of, head_of, position_in, BoxBody, PlaneWithin, SpaceWithin, SolidWithin, Operands, StepShaped}
+use Rattle.counter.specs.declared.steps.Head.{Head}
 use Rattle.counter.proofs.PositionLaws.{polygon_in_lem, ellipse_in_lem, decimal_in, ellipsoid_in_lem, without-outline_tells}
 
 -- ---- ranges
@@ -155,31 +156,43 @@ module _ (n k set : ℕ) (body : List ℤ) where
 -- ---- a row for each kind
 
 -- a decoded step of a body of good words has the shape that the code reads
-pub shaped : (kind : Kind) (n k set : ℕ) (body : List ℤ) → k ≤ 64 → length_good kind (length body) ≡ true
-    → GoodWords kind n k set body → StepShaped (step_of kind body) n body
+pub shaped : (kind : Kind) (h : Head) (n k set : ℕ) (body : List ℤ) → k ≤ 64 → length_good kind (length body) ≡ true
+    → GoodWords kind n k set body → StepShaped (step_of kind h body) n body
 unfolding oval_of
-shaped K.Box n k set body few e good = box-body n k set body e good
-shaped K.Polygon n k set body few e good = polygon_body n k set body e good
-shaped K.Ellipse n k set body few e good = ellipse-body n k set body 16777216 4096 e good
-shaped K.And n k set body few e good = operands n k set body (length_range K.And (length body) e).0 few good
-shaped K.Or n k set body few e good = operands n k set body (length_range K.Or (length body) e).0 few good
-shaped K.Not n k set body few e good = operands n k set body (length_range K.Not (length body) e).0 few good
-shaped K.DecimalEllipse n k set body few e good = ellipse-body n k set body 2000000000 4096000 e good
-shaped K.Ellipsoid n k set body few e good = ellipsoid-body n k set body e good
-shaped K.Unknown n k set body few e good = tt
+shaped K.Box h n k set body few e good = box-body n k set body e good
+shaped K.Polygon h n k set body few e good = polygon_body n k set body e good
+shaped K.Ellipse h n k set body few e good = ellipse-body n k set body 16777216 4096 e good
+shaped K.And h n k set body few e good = operands n k set body (length_range K.And (length body) e).0 few good
+shaped K.Or h n k set body few e good = operands n k set body (length_range K.Or (length body) e).0 few good
+shaped K.Not h n k set body few e good = operands n k set body (length_range K.Not (length body) e).0 few good
+shaped K.DecimalEllipse h n k set body few e good = ellipse-body n k set body 2000000000 4096000 e good
+shaped K.Ellipsoid h n k set body few e good = ellipsoid-body n k set body e good
+shaped K.Unknown h n k set body few e good = tt
 
 -- the position of an event to it says whether the event is in the shape, and whether it is on the shape's outline
-pub position_tells : (kind : Kind) (event : List ℤ) (bits : ℕ) (body : List ℤ)
-    → (not_outside (position_in (step_of kind body) event bits body) ≡ shape_in kind event bits body)
-    × (is_on_outline (position_in (step_of kind body) event bits body) ≡ shape_on kind event body)
+pub position_tells : (kind : Kind) (h : Head) (event : List ℤ) (bits : ℕ) (body : List ℤ)
+    → (not_outside (position_in (step_of kind h body) event bits body) ≡ shape_in kind event bits body)
+    × (is_on_outline (position_in (step_of kind h body) event bits body) ≡ shape_on kind event body)
 unfolding plane_of oval_of space_of solid_of polygon_in ellipse_in decimal_ellipse_in ellipsoid_in polygon_on
     ellipse_on decimal_ellipse_on ellipsoid_on value_in
-position_tells K.Box event bits body = without-outline_tells (box_in event body)
-position_tells K.Polygon event bits body = (polygon_in_lem _ _ _, refl)
-position_tells K.Ellipse event bits body = (ellipse_in_lem _ _ _ _ _ _ _ _, refl)
-position_tells K.And event bits body = without-outline_tells (all (operand_in bits body) (length body))
-position_tells K.Or event bits body = without-outline_tells (any (operand_in bits body) (length body))
-position_tells K.Not event bits body = without-outline_tells (not (operand_in bits body 0))
-position_tells K.DecimalEllipse event bits body = (decimal_in _ _ _ _ _ _ _ _, refl)
-position_tells K.Ellipsoid event bits body = (ellipsoid_in_lem _ _ _ _ _ _ _ _, refl)
-position_tells K.Unknown event bits body = (refl, refl)
+position_tells K.Box h event bits body = without-outline_tells (box_in event body)
+position_tells K.Polygon h event bits body = (polygon_in_lem _ _ _, refl)
+position_tells K.Ellipse h event bits body = (ellipse_in_lem _ _ _ _ _ _ _ _, refl)
+position_tells K.And h event bits body = without-outline_tells (all (operand_in bits body) (length body))
+position_tells K.Or h event bits body = without-outline_tells (any (operand_in bits body) (length body))
+position_tells K.Not h event bits body = without-outline_tells (not (operand_in bits body 0))
+position_tells K.DecimalEllipse h event bits body = (decimal_in _ _ _ _ _ _ _ _, refl)
+position_tells K.Ellipsoid h event bits body = (ellipsoid_in_lem _ _ _ _ _ _ _ _, refl)
+position_tells K.Unknown h event bits body = (refl, refl)
+
+-- it keeps its header
+pub head_step : (kind : Kind) (h : Head) (body : List ℤ) → head_of (step_of kind h body) ≡ h
+head_step K.Box h body = refl
+head_step K.Polygon h body = refl
+head_step K.Ellipse h body = refl
+head_step K.And h body = refl
+head_step K.Or h body = refl
+head_step K.Not h body = refl
+head_step K.DecimalEllipse h body = refl
+head_step K.Ellipsoid h body = refl
+head_step K.Unknown h body = refl

@@ -9,7 +9,7 @@ ghost use Rattle.counter.specs.Inner.Groups.{First, SetOf, Those, Candidates, fi
 
 use crate::reading::{number_in, settle};
 use crate::shapes::{in_ellipsoid, in_shape, is_ellipsoid};
-use crate::steps::{Shape, Step, body_at, parent_of, step_at};
+use crate::steps::{Shape, Step, head_of, parent_of, step_at};
 
 // Event e of a group of events of n values. Group, n and the number of events are handed on apart: as one struct with its facts,
 // 8 boxes with parents take 1.15 times as long, events far from a large polygon up to 1.17 times.
@@ -192,10 +192,10 @@ fn shape_of(
     ensures { (bits : ℕ → ℕ) → Agree among sets.now bits → Those among (shape_at step n group.now body.now bits) result }
 {
     match step {
-        Step::Drawn(shape) => drawn_of(group, n, g, among, body, shape),
-        Step::And => all_of(sets, body, among),
-        Step::Or => among & any_of(sets, body),
-        Step::Not => among & complement(operand_of(sets, body, 0)),
+        Step::Drawn(_, shape) => drawn_of(group, n, g, among, body, shape),
+        Step::And(_) => all_of(sets, body, among),
+        Step::Or(_) => among & any_of(sets, body),
+        Step::Not(_) => among & complement(operand_of(sets, body, 0)),
     }
 }
 
@@ -228,5 +228,8 @@ pub fn step_of(
         return 0;
     }
     let step = step_at(plan, at);
-    shape_of(group, n, g, among, sets, body_at(plan, at), step)
+    let head = head_of(step);
+    let start = head.start;
+    let end = head.end;
+    shape_of(group, n, g, among, sets, &plan[start..end], step)
 }

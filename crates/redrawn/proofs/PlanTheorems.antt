@@ -15,7 +15,7 @@ use Rattle.plans.specs.declared.Kind.TheVariants.{Polygon}
 use Rattle.plans.proofs.FloatTheorems.{KnowsLess}
 use Rattle.counter.specs.Counting.{count_for}
 use Rattle.counter.specs.Inner.Ranges.{Vertices}
-use Rattle.counter.specs.Inner.Steps.{Sound, AllSound}
+use Rattle.counter.specs.Inner.Steps.{head_at, Sound, AllSound}
 use Rattle.counter.proofs.SoundLaws.{passing, body-length, shaped-at}
 use Rattle.redrawn.specs.Plans.{redrawn_body, place_of, redrawn_at, redrawn_plan, Redrawings, unchanged, one_more, SameByPlan}
 use Rattle.redrawn.proofs.StepLaws.{BodyRedrawn, kept, drawn, StepRedrawn, StepsRedrawn, length-body}
@@ -118,7 +118,7 @@ body-drawn k back (x ∷ (y ∷ v)) h whole = drawn k back whole
 
 module _ (k : ℕ) (back : Bool) (p : List ℤ) (n at : ℕ) (s : Sound p n at) (polygon : kind_at p at ≡ Polygon) where
   body-form : (2 ≤ length (body_at p at)) × Vertices (drop 2 (body_at p at))
-  body-form = let w = rw polygon at (shaped-at s) in (w.1, w.2)
+  body-form = let w = rw polygon at (shaped-at s (head_at p at)) in (w.1, w.2)
 
   here-drawn : BodyRedrawn Polygon (body_at p at) (redrawn_body k back (body_at p at))
   here-drawn = let w = body-form in body-drawn k back (body_at p at) w.0 w.1.even
