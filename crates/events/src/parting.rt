@@ -1,5 +1,5 @@
 // The input parted into the table and the events.
-ghost use Rattle.std.specs.Prelude.{◌≡◌, ◌+◌, ◌≤◌, length};
+ghost use Rattle.std.specs.Prelude.{◌≡◌, ◌+◌, ◌≤◌, length, IfSome};
 ghost use Rattle.events.specs.Inner.Answers.{opening_of, parted_of};
 
 use text::lines::{find, line_from};
@@ -26,6 +26,7 @@ struct Opening {
 fn find_events(input: &[u8]) -> Opening
     ensures opening { result ≡ opening_of input.now }
     ensures within { result.at ≤ length input.now }
+    ensures near { IfSome result.line (λ n. n ≤ result.at + 2) }
 {
     let mut at = 0;
     let mut line: usize = 1;
@@ -49,6 +50,7 @@ fn find_events(input: &[u8]) -> Opening
 pub fn split(input: &[u8]) -> Parted
     ensures parted { result ≡ parted_of input.now }
     ensures within { result.table ≤ length input.now }
+    ensures near { IfSome result.line (λ n. n ≤ result.table + 2) }
 {
     let Opening { at, line } = find_events(input);
     let ended = input.get(at + 6) == Some(&b'\n');
