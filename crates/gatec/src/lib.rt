@@ -29,8 +29,9 @@ pub extern "C" fn gate_check(plan: &[i32], out: &mut [u64; 2])
 pub extern "C" fn gate_count_row69(plan: &[i32], events: &[i32], out: &mut [u64; 69])
     ensures { out.new ≡ sets out.old 0 (count_row (count_of plan.now events.now)) }
 {
+    let counted = count(plan, events);
     *out = [0; 69];
-    match count(plan, events) {
+    match counted {
         Ok(t) => {
             out[2] = t.taken;
             out[3] = t.spoilt;
