@@ -15,7 +15,7 @@ import sys
 ROOT = os.path.join(os.path.dirname(os.path.abspath(__file__)), '..')
 BEGIN, END = '<!-- tools/believed.py writes from here -->\n', '<!-- to here -->\n'
 DOCUMENT = 'docs/DEMANDS.md'
-DEMANDS = 'integers plans counter text decimals gates tables heads compiler counttable'.split()
+DEMANDS = 'integers plans counter text decimals gates tables heads tablecheck compiler counttable'.split()
 GROUPS = (('Demands 1 to 3', DEMANDS), ("The programs' text", None), ('The rows of the C interface', 'gatec gatejudge gatecompile'.split()))
 # The files that a request brought; those that were there before and that it changed stay where they were.
 REQUESTS = {
