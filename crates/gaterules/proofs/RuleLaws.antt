@@ -1,7 +1,8 @@
 -- Laws of the rules, as the code applies them.
-use Rattle.std.proofs.Common.{◌≡◌, refl, ap, Bool, true, false, cond, Some, None, List, ℕ, ℤ}
+use Rattle.std.proofs.Common.{◌≡◌, refl, ap, Bool, true, false, cond, Some, None, List, ℕ, zero, suc, ◌≤◌, arith, ℤ}
 use Rattle.std.specs.Option.{option_map_or}
 use Rattle.integers.specs.Range.{in_range}
+use Rattle.text.specs.Bounded.{last}
 use Rattle.text.specs.Numbers.{is_number, number_value}
 use Rattle.text.specs.Inner.Kept.{read_number}
 use Rattle.text.proofs.NumbersLaws.{within-clamp}
@@ -10,6 +11,15 @@ use Rattle.decimals.specs.Decimals.{is_decimal, thousandths}
 use Rattle.decimals.specs.Inner.Kept.{read_decimal}
 use Rattle.gates.specs.Inner.Bounds.{Bound, DecimalBound}
 use Rattle.gates.specs.Rules.{unless, number_refusal, decimal_refusal}
+
+-- the last index below n of which f holds, or 0
+pub last-below : (f : ℕ → Bool) (n : ℕ) → last f 0 n ≤ n
+last-below f zero = omega arith
+last-below f (suc n) = go (f n) (last-below f n)
+  where
+    go : (b : Bool) → last f 0 n ≤ n → cond b n (last f 0 n) ≤ suc n
+    go true h = omega arith
+    go false h = omega arith
 
 -- ---- numbers
 
