@@ -55,7 +55,7 @@ fn read_word(s: &[u8]) -> i32
 fn is_word_line(line: &[u8]) -> bool
     ensures { result ≡ is_word_line line.now }
 {
-    (0..field_count(line)).all(|k| is_word(field(line, k)))
+    line.split(|c| *c == b'\t').all(|word| is_word(word))
 }
 
 // The lowest line that cannot be read, counted from 1, if there is one.
